@@ -1,0 +1,41 @@
+-- The code's walk over owners is the rule's.
+use mathlib.Core.Path.{_≡_, refl, sym, ap, _∙_}
+use mathlib.Core.List.{List, [], _∷_, foldl}
+use mathlib.Core.Option.{Option, none, some}
+use Prim.Native.Nat.{ℕ}
+use native.Mathlib.Omega.{arith}
+use Rattle.graph.specs.Graph.{Adding, adding, closing, stored, first, addNext}
+use Rattle.graph.specs.Code.{answered, sooner, added, addNextC, addAllC}
+use Rattle.graph.specs.declared.wait_for_graph.WaitForGraph.{WaitForGraph}
+use Rattle.graph.specs.declared.path.Answer.the-variants.{Found, Missing}
+
+-- ---- which case of an answer it is
+
+never : Found ≡ Missing → ⊥
+never e = let z : _≡_ {A = ℕ} 0 1 = cc in omega arith
+
+module _ (g : WaitForGraph) (a b : ℕ) where
+  pub closes : (w : Option (List ℕ)) → answered w .answer ≡ Found → added (closing g a b w) ≡ added (adding g w)
+  unfolding closing
+  closes (some p) e = refl
+  closes none e = absurd (never (sym e))
+
+  pub stores : (w : Option (List ℕ)) → answered w .answer ≡ Missing → added (closing g a b w) ≡ added (adding (stored g a b) w)
+  unfolding closing
+  stores (some p) e = absurd (never e)
+  stores none e = refl
+
+-- ---- the first path is kept
+
+pub sooner-first : (p q : Option (List ℕ)) → sooner (answered p) (answered q) ≡ answered (first p q)
+sooner-first (some p) q = refl
+sooner-first none q = refl
+
+pub next-added : (t : ℕ) (k : Adding) (o : ℕ) → addNextC t (added k) o ≡ added (addNext t k o)
+unfolding addNextC addNext
+next-added t k o = rw sooner-first
+
+pub all-added : (t : ℕ) (os : List ℕ) (k : Adding) → addAllC t (added k) os ≡ added (foldl (addNext t) k os)
+unfolding addAllC
+all-added t [] k = refl
+all-added t (o ∷ os) k = ap (λ z. foldl (addNextC t) z os) (next-added t k o) ∙ all-added t os (addNext t k o)

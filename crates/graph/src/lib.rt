@@ -1,0 +1,13 @@
+// The wait-for graph: who waits for whom, the search for a path, and whether two tables mirror each other.
+mod mirror;
+mod path;
+mod search;
+mod wait_for_graph;
+
+pub use mirror::mirrors;
+pub use path::Answer;
+pub use path::Path;
+pub use path::Sought;
+pub use search::find_path;
+pub use wait_for_graph::Added;
+pub use wait_for_graph::WaitForGraph;

@@ -1,0 +1,45 @@
+// Do two tables of rows mirror each other?
+ghost use mathlib.Core.Path.{_≡_};
+ghost use Prim.Native.Nat.{_<_};
+ghost use Rattle.sets.specs.Below.{every};
+ghost use Rattle.graph.specs.Graph.{agree, mirrorAt, mirrorTest};
+use sets::threads;
+
+fn same(x: bool, y: bool) -> bool
+    ensures { λ r. ⌜ r ≡ agree x y ⌝ }
+{
+    if x {
+        return y;
+    }
+    !y
+}
+
+// Row a of the edges against column a of the incoming edges.
+fn row_mirrors(row: u32, incoming: [u32; 32], a: usize) -> bool
+    requires { ⌜ a < 32 ⌝ }
+    ensures { λ r. ⌜ r ≡ every (mirrorAt row incoming a) 32 ⌝ }
+{
+    let mut b = 0;
+    while b < 32 {
+        if same(threads::has(row, b), threads::has(incoming[b], a)) {
+            b += 1;
+        } else {
+            return false;
+        }
+    }
+    true
+}
+
+pub fn mirrors(edges: [u32; 32], incoming: [u32; 32]) -> bool
+    ensures { λ r. ⌜ r ≡ mirrorTest edges incoming ⌝ }
+{
+    let mut a = 0;
+    while a < 32 {
+        if row_mirrors(edges[a], incoming, a) {
+            a += 1;
+        } else {
+            return false;
+        }
+    }
+    true
+}

@@ -1,0 +1,144 @@
+// The search for a path: breadth first, neighbours upward, the first parent kept.
+ghost use mathlib.Core.Path.{_≡_};
+ghost use mathlib.Core.List.{[]};
+ghost use mathlib.Core.Option.{some};
+ghost use Prim.Native.Nat.{_<_, _≤_};
+ghost use lib.ListN.{drop};
+ghost use Rattle.graph.specs.Search.{visit, expand, wayBack, begin, findPath};
+ghost use Rattle.graph.specs.Code.{Sound, trailOf, pathOf, answered};
+use crate::path::Answer;
+use crate::path::Path;
+use crate::path::Sought;
+use sets::threads;
+
+// The threads found, in order: the queue, with what has left it. For each the place of the one that it was found from.
+pub struct Search {
+    pub threads: [u8; 32],
+    pub parents: [u8; 32],
+    pub count: usize,
+    pub seen: u32,
+}
+
+struct Back {
+    cells: [u8; 32],
+    at: usize,
+}
+
+impl Search {
+    fn begun(start: usize) -> Search
+        requires { ⌜ start < 32 ⌝ }
+        ensures { λ r. ⌜ (trailOf r ≡ begin start) × Sound r × (0 < r .count) ⌝ }
+    {
+        let mut threads = [0u8; 32];
+        threads[0] = start as u8;
+        let seen = threads::with(0, start);
+        Search {
+            threads,
+            parents: [0u8; 32],
+            count: 1,
+            seen,
+        }
+    }
+
+    // Thread n is met among the neighbours of the one at place p.
+    fn visit(mut self, n: usize, p: usize) -> Search
+        requires { ⌜ Sound self × (n < 32) × (p < self .count) ⌝ }
+        ensures { λ r. ⌜ (trailOf r ≡ visit p (trailOf self) n) × Sound r × (self .count ≤ r .count) ⌝ }
+    {
+        let seen = self.seen;
+        let at = self.count;
+        if threads::has(seen, n) {
+            return self;
+        }
+        self.threads[at] = n as u8;
+        self.parents[at] = p as u8;
+        self.count = at + 1;
+        self.seen = threads::with(seen, n);
+        self
+    }
+
+    // All neighbours m of the thread at place p.
+    fn expand(self, m: u32, p: usize) -> Search
+        requires { ⌜ Sound self × (p < self .count) ⌝ }
+        ensures { λ r. ⌜ (trailOf r ≡ expand p (trailOf self) m) × Sound r × (self .count ≤ r .count) ⌝ }
+    {
+        let mut s = self;
+        let mut left = m;
+        while left != 0 {
+            let n = threads::lowest(left);
+            s = s.visit(n, p);
+            left = threads::rest(left);
+        }
+        s
+    }
+
+    // The way to the thread at a place, put down from the end of 32 cells.
+    fn back(self, place: usize) -> Back
+        requires { ⌜ Sound self × (place < self .count) ⌝ }
+        ensures { λ r. ⌜ (drop (r .at) (r .cells) ≡ wayBack 31 (trailOf self) place []) × (r .at < 32) ⌝ }
+    {
+        let mut cells = [0u8; 32];
+        let mut at: usize = 32;
+        let mut k = place;
+        while k != 0 {
+            at -= 1;
+            cells[at] = self.threads[k];
+            k = self.parents[k] as usize;
+        }
+        at -= 1;
+        cells[at] = self.threads[0];
+        Back { cells, at }
+    }
+
+    fn found(self, place: usize) -> Sought
+        requires { ⌜ Sound self × (place < self .count) ⌝ }
+        ensures { λ r. ⌜ r ≡ answered (some (wayBack 31 (trailOf self) place [])) ⌝ }
+    {
+        let b = self.back(place);
+        let cells = b.cells;
+        let at = b.at;
+        let path = lowered(cells, at);
+        Sought {
+            answer: Answer::Found,
+            path,
+        }
+    }
+}
+
+// The cells from a place on, moved to the front.
+fn lowered(cells: [u8; 32], at: usize) -> Path
+    requires { ⌜ at < 32 ⌝ }
+    ensures { λ r. ⌜ r ≡ pathOf (drop at cells) ⌝ }
+{
+    let mut threads = [0u8; 32];
+    let mut j = 0;
+    while j < 32 - at {
+        threads[j] = cells[at + j];
+        j += 1;
+    }
+    Path { threads, len: j }
+}
+
+// A path from start to target over 32 rows.
+pub fn find_path(edges: [u32; 32], start: usize, target: usize) -> Sought
+    requires { ⌜ start < 32 ⌝ }
+    ensures { λ r. ⌜ r ≡ answered (findPath edges start target) ⌝ }
+{
+    // Most threads that own a lock wait for nobody.
+    if edges[start] == 0 {
+        if start != target {
+            return Sought::missing();
+        }
+    }
+    let mut s = Search::begun(start);
+    let mut p = 0;
+    while p < s.count {
+        let current = s.threads[p] as usize;
+        if current == target {
+            return s.found(p);
+        }
+        s = s.expand(edges[current], p);
+        p += 1;
+    }
+    Sought::missing()
+}

@@ -1,0 +1,192 @@
+// The wait-for graph: for each thread whom it waits for, and who waits for it.
+ghost use mathlib.Core.Path.{_≡_};
+ghost use mathlib.Core.List.{_++_};
+ghost use Prim.Native.Nat.{_<_, _≤_};
+ghost use Rattle.sets.specs.Sets.{upward};
+ghost use Rattle.graph.specs.Graph.{empty, cutAll, stored, addEdge, removeEdge, clearWaitEdges, removeThread, adding, addOwners, removeEdgesTo, one};
+ghost use Rattle.graph.specs.Code.{added, addNextC, addAllC};
+use crate::path::Answer;
+use crate::path::Sought;
+use crate::search::find_path;
+use sets::threads;
+
+pub struct WaitForGraph {
+    pub edges: [u32; 32],
+    pub incoming_edges: [u32; 32],
+}
+
+// The graph after an edge was added, or why it was not.
+pub struct Added {
+    pub graph: WaitForGraph,
+    pub sought: Sought,
+}
+
+// The table with t out of each set that m names.
+fn cut_all(table: [u32; 32], m: u32, t: usize) -> [u32; 32]
+    requires { ⌜ t < 32 ⌝ }
+    ensures { λ r. ⌜ r ≡ cutAll t table m ⌝ }
+{
+    let mut out = table;
+    let mut left = m;
+    while left != 0 {
+        let i = threads::lowest(left);
+        out[i] = threads::without(out[i], t);
+        left = threads::rest(left);
+    }
+    out
+}
+
+impl WaitForGraph {
+    pub fn new() -> WaitForGraph
+        ensures { λ r. ⌜ r ≡ empty ⌝ }
+    {
+        WaitForGraph {
+            edges: [0u32; 32],
+            incoming_edges: [0u32; 32],
+        }
+    }
+
+    // Both ways.
+    fn stored(mut self, from: usize, to: usize) -> WaitForGraph
+        requires { ⌜ (from < 32) × (to < 32) ⌝ }
+        ensures { λ r. ⌜ r ≡ stored self from to ⌝ }
+    {
+        let targets = self.edges[from];
+        let waiters = self.incoming_edges[to];
+        self.edges[from] = threads::with(targets, to);
+        self.incoming_edges[to] = threads::with(waiters, from);
+        self
+    }
+
+    pub fn add_edge(self, from: usize, to: usize) -> Added
+        requires { ⌜ (from < 32) × (to < 32) ⌝ }
+        ensures { λ r. ⌜ r ≡ added (addEdge self from to) ⌝ }
+    {
+        let edges = self.edges;
+        if threads::has(edges[from], to) {
+            let sought = Sought::missing();
+            return Added {
+                graph: self,
+                sought,
+            };
+        }
+        let sought = find_path(edges, to, from);
+        let answer = sought.answer;
+        let Answer::Missing = answer else {
+            return Added {
+                graph: self,
+                sought,
+            };
+        };
+        let graph = self.stored(from, to);
+        Added { graph, sought }
+    }
+
+    pub fn clear_wait_edges(mut self, thread: usize) -> WaitForGraph
+        requires { ⌜ thread < 32 ⌝ }
+        ensures { λ r. ⌜ r ≡ clearWaitEdges self thread ⌝ }
+    {
+        let targets = self.edges[thread];
+        let incoming = self.incoming_edges;
+        self.edges[thread] = 0;
+        let cut = cut_all(incoming, targets, thread);
+        self.incoming_edges = cut;
+        self
+    }
+
+    pub fn remove_edge(mut self, from: usize, to: usize) -> WaitForGraph
+        requires { ⌜ (from < 32) × (to < 32) ⌝ }
+        ensures { λ r. ⌜ r ≡ removeEdge self from to ⌝ }
+    {
+        let neighbors = self.edges[from];
+        if threads::has(neighbors, to) {
+            let waiters = self.incoming_edges[to];
+            self.edges[from] = threads::without(neighbors, to);
+            self.incoming_edges[to] = threads::without(waiters, from);
+        }
+        self
+    }
+
+    pub fn remove_thread(self, thread: usize) -> WaitForGraph
+        requires { ⌜ thread < 32 ⌝ }
+        ensures { λ r. ⌜ r ≡ removeThread self thread ⌝ }
+    {
+        let mut g = self.clear_wait_edges(thread);
+        let waiters = g.incoming_edges[thread];
+        let edges = g.edges;
+        g.incoming_edges[thread] = 0;
+        let cut = cut_all(edges, waiters, thread);
+        g.edges = cut;
+        g
+    }
+
+    // The edges from each of the waiters to a thread go.
+    pub fn remove_edges_to(self, waiters: u32, thread: usize) -> WaitForGraph
+        requires { ⌜ thread < 32 ⌝ }
+        ensures { λ r. ⌜ r ≡ removeEdgesTo thread self (upward 32 waiters) ⌝ }
+    {
+        let mut g = self;
+        let mut left = waiters;
+        while left != 0 {
+            let waiter = threads::lowest(left);
+            g = g.remove_edge(waiter, thread);
+            left = threads::rest(left);
+        }
+        g
+    }
+
+    // An edge from t to each of a set of owners, then to the last (32: none); the first path is kept.
+    pub fn add_owners(self, t: usize, owners: u32, last: usize) -> Added
+        requires { ⌜ (t < 32) × (last ≤ 32) ⌝ }
+        ensures { λ r. ⌜ r ≡ added (addOwners t self (upward 32 owners ++ one last)) ⌝ }
+    {
+        let a = self.add_all(t, owners);
+        if last < 32 {
+            return a.add_next(t, last);
+        }
+        a
+    }
+
+    fn add_all(self, t: usize, owners: u32) -> Added
+        requires { ⌜ t < 32 ⌝ }
+        ensures { λ r. ⌜ r ≡ added (addOwners t self (upward 32 owners)) ⌝ }
+    {
+        let sought = Sought::missing();
+        let mut a = Added {
+            graph: self,
+            sought,
+        };
+        let mut left = owners;
+        while left != 0 {
+            let owner = threads::lowest(left);
+            a = a.add_next(t, owner);
+            left = threads::rest(left);
+        }
+        a
+    }
+
+    // The edges from t anew.
+    pub fn relink(self, t: usize, owners: u32, last: usize) -> Added
+        requires { ⌜ (t < 32) × (last ≤ 32) ⌝ }
+        ensures { λ r. ⌜ r ≡ added (addOwners t (clearWaitEdges self t) (upward 32 owners ++ one last)) ⌝ }
+    {
+        let g = self.clear_wait_edges(t);
+        g.add_owners(t, owners, last)
+    }
+}
+
+impl Added {
+    // One edge more; a path found before is kept.
+    fn add_next(self, t: usize, owner: usize) -> Added
+        requires { ⌜ (t < 32) × (owner < 32) ⌝ }
+        ensures { λ r. ⌜ r ≡ addNextC t self owner ⌝ }
+    {
+        let g = self.graph;
+        let before = self.sought;
+        let a = g.add_edge(t, owner);
+        let graph = a.graph;
+        let now = a.sought;
+        let sought = before.or(now);
+        Added { graph, sought }
+    }
+}

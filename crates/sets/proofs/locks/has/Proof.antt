@@ -1,0 +1,13 @@
+use Rattle.sets.proofs.Digits.{bit-shift}
+use borrow.Author.Needs.{needs}
+use Rattle.sets.proofs.locks.has.Statement.{statement}
+use Rattle.sets.proofs.locks.has.Tie as tie
+
+shr-result : tie.Need-shr-result
+shr-result c = search needs
+
+returns : tie.Need-returns
+returns c = rw bit-shift
+
+pub has-spec : {M : Type 1} → statement M
+has-spec = tie.close (tie.spec shr-result returns)

@@ -1,0 +1,16 @@
+use Rattle.sets.proofs.Digits.{with-or, one-shl}
+use borrow.Author.Needs.{needs}
+use Rattle.sets.proofs.threads.with.Statement.{statement}
+use Rattle.sets.proofs.threads.with.Tie as tie
+
+cast-result : tie.Need-cast-result
+cast-result c = search needs
+
+shl-result : tie.Need-shl-result
+shl-result c = search needs
+
+returns : tie.Need-returns
+returns c = rw (one-shl 32 _ (c .pre)) (with-or _ _)
+
+pub with-spec : {M : Type 1} → statement M
+with-spec = tie.close (tie.spec cast-result shl-result returns)

@@ -1,0 +1,14 @@
+-- Words for the numbers below a bound, upward.
+use mathlib.Core.List.{List, [], _∷_, _++_}
+use mathlib.Core.Bool.{Bool, true, false, cond}
+use Prim.Native.Nat.{ℕ, zero, suc}
+
+-- f holds of every number below n
+unfoldable pub every : (ℕ → Bool) → ℕ → Bool
+every f zero = true
+every f (suc n) = cond (every f n) (f n) false
+
+-- the numbers below n of which f holds, upward
+unfoldable pub those : (ℕ → Bool) → ℕ → List ℕ
+those f zero = []
+those f (suc n) = those f n ++ cond (f n) (n ∷ []) []
