@@ -2,6 +2,7 @@
 -- The code's records
 pub mod Trails
 pub mod Owners
+pub mod Fits
 -- Theorems
 pub mod Ways
 pub mod Paths

@@ -2,7 +2,7 @@
 use mathlib.Core.Path.{_≡_}
 use mathlib.Core.List.{List, [], _++_, foldl}
 use mathlib.Core.Option.{Option, none, some}
-use Prim.Native.Nat.{ℕ, _-_, _<_, _^_}
+use Prim.Native.Nat.{ℕ, _-_, _<_, _≤_, _^_}
 use lib.ListN.{getD, take, length, replicate}
 use lib.Count.{ones}
 use Rattle.graph.specs.Search.{Trail}
@@ -26,6 +26,12 @@ answered none = record { answer = Missing; path = pathOf [] }
 -- the threads of a path
 abbrev pub listOf : Path → List ℕ
 listOf p = take (p .len) (p .threads)
+
+-- at most 32 threads, each below 32
+pub record Fit (p : Path) : Type 0 where
+  pub long : p .len ≤ 32
+  pub small : (k : ℕ) → getD (p .threads) k 0 < 32
+  pub cells : p .len ≤ length (p .threads)
 
 -- the answer's case and its value: document 01's "path found or none"
 abbrev pub foundBy : Answer → Path → Option (List ℕ)

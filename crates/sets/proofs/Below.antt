@@ -9,7 +9,7 @@ use native.Mathlib.Nat.{eq-or-lt-of-le}
 use lib.Dec.{eqb}
 use Rattle.sets.specs.Sets.{bit, has, consIf, upwardFrom, upward}
 use Rattle.sets.specs.Lists.{In}
-use Rattle.sets.specs.Below.{every, those}
+use Rattle.sets.specs.Below.{every, those, each}
 use Rattle.sets.proofs.Lists.{in-left, in-right, in-either}
 
 -- k below n + 1 is below n, or n
@@ -93,3 +93,20 @@ pub upward-those : (k m : ℕ) → upward k m ≡ those (has m) k
 unfolding those upwardFrom
 upward-those zero m = refl
 upward-those (suc k) m = upward-last k 0 m ∙ ap₂ (λ (a : List ℕ) (x : ℕ). a ++ cond (has m k) (x ∷ []) []) (upward-those k m) (omega arith)
+
+-- ---- each
+
+-- what the step keeps is kept
+pub each-keeps : {A : Type 0} (P : A → Type 0) (f : A → ℕ → A) (n : ℕ) (x : A) → ((y : A) (k : ℕ) → k < n → P y → P (f y k)) → P x → P (each f x n)
+unfolding each
+each-keeps P f zero x h p = p
+each-keeps P f (suc n) x h p = h (each f x n) n (omega arith) (each-keeps P f n x (λ y k l. h y k (omega arith)) p)
+
+-- one number more, as a loop counts
+pub each-next : {A : Type 0} (f : A → ℕ → A) (x : A) (n : ℕ) → f (each f x n) n ≡ each f x (n + 1)
+unfolding each
+each-next f x n = let e : suc n ≡ n + 1 = omega arith in ap (λ (m : ℕ). each f x m) e
+
+pub each-none : {A : Type 0} (f : A → ℕ → A) (x : A) → each f x 0 ≡ x
+unfolding each
+each-none f x = refl

@@ -126,7 +126,10 @@ upward-lt k m x h = let r = from-bit k 0 m x h in omega arith
 pub upward-bit : (k m x : ℕ) → In x (upward k m) → bit m x ≡ 1
 upward-bit k m x h = let z : x - 0 ≡ x = omega arith in rw z at (from-bit k 0 m x h .2)
 
-pub bit-upward : (k m x : ℕ) → m < 2 ^ k → bit m x ≡ 1 → In x (upward k m)
-bit-upward k m x h e =
+pub digit-upward : (k m x : ℕ) → x < k → bit m x ≡ 1 → In x (upward k m)
+digit-upward k m x h e =
     let z : 0 + x ≡ x = omega arith in
-    subst (λ (y : ℕ). In y (upward k m)) z (bit-from k 0 m x (bit-below k m x h e) e)
+    subst (λ (y : ℕ). In y (upward k m)) z (bit-from k 0 m x h e)
+
+pub bit-upward : (k m x : ℕ) → m < 2 ^ k → bit m x ≡ 1 → In x (upward k m)
+bit-upward k m x h e = digit-upward k m x (bit-below k m x h e) e

@@ -12,3 +12,8 @@ every f (suc n) = cond (every f n) (f n) false
 unfoldable pub those : (ℕ → Bool) → ℕ → List ℕ
 those f zero = []
 those f (suc n) = those f n ++ cond (f n) (n ∷ []) []
+
+-- f done for every number below n, upward
+unfoldable pub each : {A : Type 0} → (A → ℕ → A) → A → ℕ → A
+each f x zero = x
+each f x (suc n) = f (each f x n) n

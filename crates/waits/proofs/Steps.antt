@@ -1,0 +1,55 @@
+-- The code's steps are the rules'.
+use mathlib.Core.Path.{_≡_, refl, sym, ap, _∙_, subst}
+use mathlib.Core.List.{List, [], _∷_, foldl}
+use mathlib.Core.Option.{none}
+use Prim.Native.Nat.{ℕ}
+use Rattle.graph.specs.Graph.{Adding}
+use Rattle.graph.specs.Code.{answered, added}
+use Rattle.graph.proofs.Owners.{sooner-first}
+use Rattle.waits.specs.Tables.{intentOf, InRange}
+use Rattle.waits.specs.Waiting.{Step, after, renewFor, renew, start, renewAll, refreshNext, refreshLocks}
+use Rattle.waits.specs.Code.{told, afterC, renewForC, renewC, renewAllC, refreshNextC, refreshAllC}
+use Rattle.waits.specs.declared.tables.Waits.{Waits}
+use Rattle.waits.specs.declared.tables.Linked.{Linked}
+use Rattle.waits.specs.declared.intent.Awaits.{Awaits}
+use Rattle.waits.specs.declared.intent.Awaits.the-variants.{Nothing, For}
+
+after-code : (k n : Adding) → afterC (added k) (added n) ≡ added (after k n)
+after-code k n = rw sooner-first
+
+renew-code : (c : List ℕ) (w : Waits) (k : Adding) (t : ℕ) → renewC c w (added k) t ≡ added (renew c w k t)
+unfolding renewC renew
+renew-code c w k t = go (intentOf w t)
+  where
+    go : (a : Awaits) → renewForC c w (added k) t a ≡ added (renewFor c w k t a)
+    go Nothing = refl
+    go (For i) = after-code k _
+
+all-code : (c : List ℕ) (w : Waits) (ts : List ℕ) (k : Adding) → renewAllC c w (added k) ts ≡ added (foldl (renew c w) k ts)
+unfolding renewAllC
+all-code c w [] k = refl
+all-code c w (t ∷ ts) k = ap (λ a. foldl (renewC c w) a ts) (renew-code c w k t) ∙ all-code c w ts (renew c w k t)
+
+pub renew-all-code : (c : List ℕ) (w : Waits) (ts : List ℕ) → renewAllC c w (added (start w)) ts ≡ added (renewAll c w ts)
+unfolding renewAll
+renew-all-code c w ts = all-code c w ts (start w)
+
+refresh-code : (c : List ℕ) (s : Step) (l : ℕ) → refreshNextC c (told s) l ≡ told (refreshNext c s l)
+unfolding refreshNextC refreshNext
+refresh-code c s l = rw sooner-first
+
+locks-code : (c : List ℕ) (ls : List ℕ) (s : Step) → refreshAllC c (told s) ls ≡ told (foldl (refreshNext c) s ls)
+unfolding refreshAllC
+locks-code c [] s = refl
+locks-code c (l ∷ ls) s = ap (λ k. foldl (refreshNextC c) k ls) (refresh-code c s l) ∙ locks-code c ls (refreshNext c s l)
+
+pub refresh-all-code : (c : List ℕ) (w : Waits) (ls : List ℕ) → refreshAllC c (record { waits = w; sought = answered none }) ls ≡ told (refreshLocks c w ls)
+unfolding refreshLocks
+refresh-all-code c w ls = locks-code c ls (record { waits = w; found = none })
+
+-- a result and what it keeps to
+pub pack : {r s : Waits} → r ≡ s → InRange s → (r ≡ s) × InRange r
+pack e h = (e, subst InRange (sym e) h)
+
+pub pack-linked : {r s : Linked} → r ≡ s → InRange (s .waits) → (r ≡ s) × InRange (r .waits)
+pack-linked e h = (e, subst (λ (x : Linked). InRange (x .waits)) (sym e) h)

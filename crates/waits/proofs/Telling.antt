@@ -1,0 +1,169 @@
+-- What is told is what the rules say: the report's bytes, and the judgement.
+use mathlib.Core.Path.{_≡_, refl, sym, ap, _∙_, subst}
+use mathlib.Core.List.{List, [], _∷_, _++_, append-nil}
+use mathlib.Core.Bool.{Bool, true, false, cond}
+use mathlib.Core.Option.{Option, none, some}
+use Prim.Native.Nat.{ℕ, suc, _+_, _*_, _-_, _<_, _≤_}
+use native.Mathlib.Omega.{arith}
+use lib.ListN.{length, take, drop, getD, set, replicate}
+use lib.Seq.{length-take-le, take-append-seam, sets, length-sets}
+use Rattle.sets.proofs.Walk.{upward-zero}
+use Rattle.graph.specs.Code.{answered, foundIn, listOf, Fit}
+use Rattle.graph.specs.declared.path.Path.{Path}
+use Rattle.graph.proofs.Fits.{found-in}
+use Rattle.waits.specs.Tables.{intentOf, lockOf, waitersOf, InRange}
+use Rattle.waits.specs.Waiting.{Step, register, renewAll, refresh, refreshLocks}
+use Rattle.waits.specs.Report.{Report, Said, report, entries, bytesOf, written, quiet, saying}
+use Rattle.waits.specs.Validate.{valid, awaitedLocks, checked, validate}
+use Rattle.waits.specs.Attempt.{judgedOf, judged, sievedOf, sieved, settle, block, blockMutex, mutexOn}
+use Rattle.waits.specs.Code.{told, laid, Tells}
+use Rattle.waits.specs.declared.tables.Waits.{Waits}
+use Rattle.waits.specs.declared.tables.Linked.{Linked}
+use Rattle.waits.specs.declared.tables.Told.{Told}
+use Rattle.waits.specs.declared.intent.WaitIntent.{WaitIntent}
+use Rattle.waits.proofs.Masks.{next-of, done-of}
+
+-- ---- bytes laid into a buffer
+
+pub laid-length : (b : List ℕ) (at : ℕ) (l : List ℕ) → length (laid b at l) ≡ length b
+unfolding laid
+laid-length b at l = length-sets b at l
+
+pub laid-none : (b : List ℕ) (at : ℕ) → laid b at [] ≡ b
+unfolding laid
+laid-none b at = refl
+
+pub laid-append : (b : List ℕ) (at : ℕ) (l m : List ℕ) → laid b at (l ++ m) ≡ laid (laid b at l) (at + length l) m
+unfolding laid
+laid-append b at l m = go l b at
+  where
+    go : (l b : List ℕ) (at : ℕ) → sets b at (l ++ m) ≡ sets (sets b at l) (at + length l) m
+    go [] b at = ap (λ (k : ℕ). sets b k m) (omega arith)
+    go (x ∷ l) b at = go l (set b at x) (suc at) ∙ ap (λ (k : ℕ). sets (sets (set b at x) (suc at) l) k m) (omega arith)
+
+laid-one : (b : List ℕ) (at x : ℕ) (l : List ℕ) → laid b at (x ∷ l) ≡ laid (set b at x) (at + 1) l
+unfolding laid
+laid-one b at x l = ap (λ (k : ℕ). sets (set b at x) k l) (omega arith)
+
+-- ---- the report
+
+module _ (w : Waits) (ts : List ℕ) (n : ℕ) (b : n ≤ length ts) where
+  pub entry-step : (buf : List ℕ) (at i : ℕ) → i < n
+      → laid (set (set buf at (getD ts i 0)) (at + 1) (lockOf (intentOf w (getD ts i 0)))) (at + 2) (entries w (drop (i + 1) (take n ts)))
+      ≡ laid buf at (entries w (drop i (take n ts)))
+  unfolding entries
+  entry-step buf at i h =
+      let e : at + 2 ≡ at + 1 + 1 = omega arith in
+      rw e
+      (sym (ap (λ (l : List ℕ). laid buf at (entries w l)) (next-of ts n i h b)
+      ∙ laid-one buf at (getD ts i 0) _
+      ∙ laid-one (set buf at (getD ts i 0)) (at + 1) (lockOf (intentOf w (getD ts i 0))) (entries w (drop (i + 1) (take n ts)))))
+
+  pub entry-end : (buf : List ℕ) (at i : ℕ) → n ≤ i → buf ≡ laid buf at (entries w (drop i (take n ts)))
+  unfolding entries
+  entry-end buf at i h = rw (done-of ts n i h b) (sym (laid-none buf at))
+
+  pub report-head : (buf : List ℕ) (from : ℕ) → laid (set buf from n) (from + 1) (entries w (take n ts)) ≡ laid buf from (bytesOf (report w (take n ts)))
+  unfolding bytesOf
+  report-head buf from =
+      ap (λ (k : ℕ). laid (set buf from k) (from + 1) (entries w (take n ts))) (sym (length-take-le n ts b)) ∙ sym (laid-one buf from _ _)
+
+pub length-entries : (w : Waits) (p : List ℕ) → length (entries w p) ≡ 2 * length p
+unfolding entries
+length-entries w [] = refl
+length-entries w (t ∷ p) = omega (arith, length-entries w p)
+
+-- a report of n threads has 1 + 2 n bytes
+pub length-bytes : (w : Waits) (p : List ℕ) → length (bytesOf (report w p)) ≡ 1 + 2 * length p
+unfolding bytesOf
+length-bytes w p = omega (arith, length-entries w p)
+
+written-one : (r : Report) → written (r ∷ []) ≡ bytesOf r
+unfolding written
+written-one r = append-nil (bytesOf r)
+
+-- ---- telling
+
+pub say-tells : (w : Waits) (p : Path) (used from : ℕ) (b e : List ℕ) → InRange w → Fit p
+    → (e ≡ laid b from (bytesOf (report w (listOf p)))) → (used ≡ from + 1 + 2 * p .len)
+    → Tells (record { waits = w; reports = 1; used = used }) b e from (saying w (listOf p))
+say-tells w p used from b e s f x y =
+    let n : length (take (p .len) (p .threads)) ≡ p .len = length-take-le (p .len) (p .threads) (f .cells) in
+    record {
+      waits = refl;
+      count = refl;
+      bytes = rw (written-one (report w (listOf p))) x;
+      used = rw (written-one (report w (listOf p))) (omega (arith, length-bytes w (listOf p)));
+      room = omega (arith, f .long);
+      few = omega arith;
+      inRange = s;
+    }
+
+pub quiet-tells : (w : Waits) (from : ℕ) (b : List ℕ) → InRange w → Tells (record { waits = w; reports = 0; used = from }) b b from (quiet w)
+unfolding written
+quiet-tells w from b s =
+    record { waits = refl; count = refl; bytes = sym (laid-none b from); used = omega arith; room = omega arith; few = omega arith; inRange = s }
+
+pub retell : {r : Told} {b e : List ℕ} {from : ℕ} {a z : Said} → a ≡ z → Tells r b e from a → Tells r b e from z
+retell {r} {b} {e} {from} q t = subst (Tells r b e from) q t
+
+pub hush-tells : (r : Told) (w : Waits) (from : ℕ) (b : List ℕ) → r ≡ record { waits = w; reports = 0; used = from } → InRange w → Tells r b b from (quiet w)
+hush-tells r w from b e s = subst (λ (x : Told). Tells x b b from (quiet w)) (sym e) (quiet-tells w from b s)
+
+-- ---- a path is judged
+
+checked-of : (c : List ℕ) (w : Waits) (o : Option (List ℕ))
+    → cond (valid c w (listOf (answered o .path))) (saying w (listOf (answered o .path))) (quiet w) ≡ checked c w o
+unfolding checked valid
+checked-of c w none = refl
+checked-of c w (some p) = rw (take-append-seam p (replicate (32 - length p) 0))
+
+module _ (c : List ℕ) (w : Waits) (p : List ℕ) where
+  pub first-say : valid c w p ≡ true → saying w p ≡ validate c w p
+  unfolding validate
+  first-say e = rw e
+
+  module _ (f : valid c w p ≡ false) where
+    again : (b : Bool) → (let r = refreshLocks c w (awaitedLocks w p) in valid c (r .waits) (listOf (answered (r .found) .path)) ≡ b
+        → cond b (saying (r .waits) (listOf (answered (r .found) .path))) (quiet (r .waits)) ≡ validate c w p)
+    unfolding validate
+    again b g =
+        let r = refreshLocks c w (awaitedLocks w p) in
+        ap (λ x. cond x (saying (r .waits) (listOf (answered (r .found) .path))) (quiet (r .waits))) (sym g) ∙ checked-of c (r .waits) (r .found) ∙ rw f
+
+    pub second-say : (k : Linked) → k ≡ told (refreshLocks c w (awaitedLocks w p)) → valid c (k .waits) (listOf (k .sought .path)) ≡ true
+        → saying (k .waits) (listOf (k .sought .path)) ≡ validate c w p
+    second-say k e = subst (λ (k : Linked). valid c (k .waits) (listOf (k .sought .path)) ≡ true → saying (k .waits) (listOf (k .sought .path)) ≡ validate c w p) (sym e) (again true)
+
+    pub second-quiet : (k : Linked) → k ≡ told (refreshLocks c w (awaitedLocks w p)) → valid c (k .waits) (listOf (k .sought .path)) ≡ false
+        → quiet (k .waits) ≡ validate c w p
+    second-quiet k e = subst (λ (k : Linked). valid c (k .waits) (listOf (k .sought .path)) ≡ false → quiet (k .waits) ≡ validate c w p) (sym e) (again false)
+
+-- the code's record of a step, judged, is the step judged
+judged-told : (c : List ℕ) (s : Step) (k : Linked) → k ≡ told s → judgedOf c (k .waits) (foundIn (k .sought)) ≡ judged c s
+judged-told c s k e = ap (λ (k : Linked). judgedOf c (k .waits) (foundIn (k .sought))) e ∙ ap (judgedOf c (s .waits)) (found-in (s .found))
+
+sieved-told : (c : List ℕ) (s : Step) (k : Linked) → k ≡ told s → sievedOf c (k .waits) (foundIn (k .sought)) ≡ sieved c s
+sieved-told c s k e = ap (λ (k : Linked). sievedOf c (k .waits) (foundIn (k .sought))) e ∙ ap (sievedOf c (s .waits)) (found-in (s .found))
+
+pub settle-told : (c : List ℕ) (w : Waits) (l : ℕ) (k : Linked) → k ≡ told (refresh c w l) → judgedOf c (k .waits) (foundIn (k .sought)) ≡ settle c w l
+unfolding settle
+settle-told c w l k e = judged-told c (refresh c w l) k e
+
+pub block-told : (c : List ℕ) (w : Waits) (t : ℕ) (i : WaitIntent) (k : Linked) → k ≡ told (register c w t i) → judgedOf c (k .waits) (foundIn (k .sought)) ≡ block c w t i
+unfolding block
+block-told c w t i k e = judged-told c (register c w t i) k e
+
+pub mutex-told : (c : List ℕ) (w : Waits) (t l : ℕ) (k : Linked) → k ≡ told (register c w t (mutexOn l)) → sievedOf c (k .waits) (foundIn (k .sought)) ≡ blockMutex c w t l
+unfolding blockMutex
+mutex-told c w t l k e = sieved-told c (register c w t (mutexOn l)) k e
+
+-- ---- nobody waits: nothing to refresh, nothing to tell
+
+pub refresh-idle : (c : List ℕ) (w : Waits) (l : ℕ) → waitersOf w l ≡ 0 → refresh c w l ≡ record { waits = w; found = none }
+unfolding refresh renewAll
+refresh-idle c w l e = rw (e, upward-zero 32 0)
+
+pub settle-idle : (c : List ℕ) (w : Waits) (l : ℕ) → waitersOf w l ≡ 0 → settle c w l ≡ quiet w
+unfolding settle
+settle-idle c w l e = ap (judged c) (refresh-idle c w l e)

@@ -1,0 +1,95 @@
+use Rattle.waits.proofs.Masks.{in-mask, last-none, last-in, last-out}
+use Rattle.waits.specs.Owners.{readers}
+use Rattle.sets.proofs.Walk.{upward-zero}
+use borrow.Author.Needs.{needs}
+use mathlib.Core.Path.{sym, _∙_}
+use mathlib.Core.Bool.{true, false}
+use native.Mathlib.Omega.{arith}
+use Rattle.waits.proofs.tables.Waits.incompatible_owners.Statement.{statement}
+use Rattle.waits.proofs.tables.Waits.incompatible_owners.Tie as tie
+
+cast-l : tie.Need-cast-l
+cast-l c = search needs
+
+enum-told : tie.Need-enum-told
+enum-told c = search needs
+
+element-copy-out-t12 : tie.Need-element-copy-out-t12
+element-copy-out-t12 c = search needs
+
+cast-t13 : tie.Need-cast-t13
+cast-t13 c = search needs
+
+enum-told-2 : tie.Need-enum-told-2
+enum-told-2 c = search needs
+
+element-copy-out-t16 : tie.Need-element-copy-out-t16
+element-copy-out-t16 c = search needs
+
+cast-t17 : tie.Need-cast-t17
+cast-t17 c = search needs
+
+enum-told-3 : tie.Need-enum-told-3
+enum-told-3 c = search needs
+
+reader-mask-requires : tie.Need-reader-mask-requires
+reader-mask-requires c κs = search needs
+
+element-copy-out-last : tie.Need-element-copy-out-last
+element-copy-out-last c = search needs
+
+cast-last : tie.Need-cast-last
+cast-last c = search needs
+
+returns : tie.Need-returns
+returns c =
+    let s = c .before .before .before .before .before .before in (
+      rw (c .before .before .reader-mask .ensures, c .before .before .before .enum-told3 .given .1)
+          (last-none _ (readers (s .args .counts .now) (s .args .i .«lock_id»)) (c .if1 .taken)),
+      omega arith,
+    )
+
+has-requires : tie.Need-has-requires
+has-requires c κs = omega (arith, c .before .before .before .before .before .before .pre .0 .writer (c .before .before .before .before .before .before .args .i .«lock_id»))
+
+returns-2 : tie.Need-returns-2
+returns-2 c =
+    let s = c .before .before .before .before .before .before .before .before in
+    let e = c .before .before .before .before .reader-mask .ensures in
+    let m = in-mask _ _ _ true (omega (arith, s .pre .0 .writer (s .args .i .«lock_id»))) e (sym (c .before .has .ensures) ∙ c .if2 .taken) in
+    (rw (e, c .before .before .before .before .before .enum-told3 .given .1) (last-in _ _ m), omega arith)
+
+returns-3 : tie.Need-returns-3
+returns-3 c = (rw (upward-zero 32 0, c .before .enum-told .given .1), c .before .before .before .before .pre .0 .owner _)
+
+returns-4 : tie.Need-returns-4
+returns-4 c = (rw (upward-zero 32 0, c .before .enum-told2 .given .1), c .before .before .before .before .pre .0 .writer _)
+
+returns-5 : tie.Need-returns-5
+returns-5 c =
+    let s = c .before .before .before .before .before .before .before .before in
+    let e = c .before .before .before .before .reader-mask .ensures in
+    let m = in-mask _ _ _ false (omega (arith, s .pre .0 .writer (s .args .i .«lock_id»))) e (sym (c .before .has .ensures) ∙ c .if2 .left) in
+    (rw (e, c .before .before .before .before .before .enum-told3 .given .1) (last-out _ _ m), s .pre .0 .writer _)
+
+pub incompatible-owners-spec : {M : Type 1} → statement M
+incompatible-owners-spec =
+    tie.close
+    (tie.spec
+    cast-l
+    enum-told
+    element-copy-out-t12
+    cast-t13
+    enum-told-2
+    element-copy-out-t16
+    cast-t17
+    enum-told-3
+    reader-mask-requires
+    element-copy-out-last
+    cast-last
+    returns
+    has-requires
+    returns-2
+    returns-3
+    returns-4
+    returns-5)

@@ -1,0 +1,43 @@
+-- What the events that may report are made of.
+use mathlib.Core.List.{List}
+use mathlib.Core.Bool.{cond}
+use mathlib.Core.Option.{Option, none, some}
+use Prim.Native.Nat.{ℕ}
+use Rattle.waits.specs.Waiting.{Step, register, refresh}
+use Rattle.waits.specs.Filter.{passes}
+use Rattle.waits.specs.Report.{Said, quiet}
+use Rattle.waits.specs.Validate.{validate}
+use Rattle.waits.specs.declared.tables.Waits.{Waits}
+use Rattle.waits.specs.declared.intent.WaitIntent.{WaitIntent}
+use Rattle.waits.specs.declared.intent.WaitMode.the-variants.{Mutex}
+
+-- validate a path
+abbrev pub judgedOf : List ℕ → Waits → Option (List ℕ) → Said
+judgedOf c w none = quiet w
+judgedOf c w (some p) = validate c w p
+
+abbrev pub judged : List ℕ → Step → Said
+judged c s = judgedOf c (s .waits) (s .found)
+
+-- a path must pass the filter, then validate
+abbrev pub sievedOf : List ℕ → Waits → Option (List ℕ) → Said
+sievedOf c w none = quiet w
+sievedOf c w (some p) = cond (passes c w p) (validate c w p) (quiet w)
+
+abbrev pub sieved : List ℕ → Step → Said
+sieved c s = sievedOf c (s .waits) (s .found)
+
+-- refresh l; validate a path
+unfoldable pub settle : List ℕ → Waits → ℕ → Said
+settle c w l = judged c (refresh c w l)
+
+-- register; validate, no filter
+unfoldable pub block : List ℕ → Waits → ℕ → WaitIntent → Said
+block c w t i = judged c (register c w t i)
+
+-- register Mutex; a path must pass the filter, then validate
+abbrev pub mutexOn : ℕ → WaitIntent
+mutexOn l = record { «lock_id» = l; mode = Mutex }
+
+unfoldable pub blockMutex : List ℕ → Waits → ℕ → ℕ → Said
+blockMutex c w t l = sieved c (register c w t (mutexOn l))

@@ -1,0 +1,81 @@
+-- What the code's records and masks stand for.
+use mathlib.Core.Path.{_≡_}
+use mathlib.Core.List.{List, [], _∷_, foldl}
+use mathlib.Core.Bool.{Bool, true, false, cond}
+use Prim.Native.Nat.{ℕ, _+_, _≤_}
+use lib.Bits.{bitAnd}
+use lib.ListN.{length}
+use lib.Seq.{sets}
+use Rattle.sets.specs.Sets.{with}
+use Rattle.graph.specs.Search.{row}
+use Rattle.graph.specs.Graph.{clearWaitEdges, addOwners}
+use Rattle.graph.specs.Code.{answered, added, sooner}
+use Rattle.graph.specs.declared.wait_for_graph.Added.{Added}
+use Rattle.waits.specs.Tables.{InRange, intentOf}
+use Rattle.waits.specs.Owners.{owners}
+use Rattle.waits.specs.Waiting.{Step, refresh}
+use Rattle.waits.specs.Filter.{unread}
+use Rattle.waits.specs.Report.{Said, written, reportBytes}
+use Rattle.waits.specs.declared.tables.Waits.{Waits}
+use Rattle.waits.specs.declared.tables.Linked.{Linked}
+use Rattle.waits.specs.declared.tables.Told.{Told}
+use Rattle.waits.specs.declared.intent.Awaits.{Awaits}
+use Rattle.waits.specs.declared.intent.Awaits.the-variants.{Nothing, For}
+
+-- the code's record of a step
+abbrev pub told : Step → Linked
+told s = record { waits = s .waits; sought = answered (s .found) }
+
+-- the buffer b with the bytes s from a place on; the rest as it was
+unfoldable pub laid : List ℕ → ℕ → List ℕ → List ℕ
+laid b at s = sets b at s
+
+-- what the code tells is what was said: the tables, the number of reports, and every byte of the buffer, b before and e
+-- after; at most one report, of at most reportBytes
+pub record Tells (r : Told) (b e : List ℕ) (from : ℕ) (a : Said) : Type 0 where
+  pub waits : r .waits ≡ a .waits
+  pub count : r .reports ≡ length (a .reports)
+  pub bytes : e ≡ laid b from (written (a .reports))
+  pub used : r .used ≡ from + length (written (a .reports))
+  pub room : r .used ≤ from + reportBytes
+  pub few : r .reports ≤ 1
+  pub inRange : InRange (r .waits)
+
+-- THE CODE'S OWN STEPS
+abbrev pub afterC : Added → Added → Added
+afterC a n = record { graph = n .graph; sought = sooner (a .sought) (n .sought) }
+
+abbrev pub renewForC : List ℕ → Waits → Added → ℕ → Awaits → Added
+renewForC c w a t Nothing = a
+renewForC c w a t (For i) = afterC a (added (addOwners t (clearWaitEdges (a .graph) t) (owners c w i)))
+
+unfoldable pub renewC : List ℕ → Waits → Added → ℕ → Added
+renewC c w a t = renewForC c w a t (intentOf w t)
+
+unfoldable pub renewAllC : List ℕ → Waits → Added → List ℕ → Added
+renewAllC c w a ts = foldl (renewC c w) a ts
+
+unfoldable pub refreshNextC : List ℕ → Linked → ℕ → Linked
+refreshNextC c k l = let n = told (refresh c (k .waits) l) in record { waits = n .waits; sought = sooner (k .sought) (n .sought) }
+
+unfoldable pub refreshAllC : List ℕ → Linked → List ℕ → Linked
+refreshAllC c k ls = foldl (refreshNextC c) k ls
+
+-- MASKS
+-- the locks of m that all threads of p hold
+unfoldable pub commonMask : List ℕ → ℕ → List ℕ → ℕ
+commonMask holds m [] = m
+commonMask holds m (t ∷ p) = commonMask holds (bitAnd m (row holds t)) p
+
+-- every lock of the list has a reader
+unfoldable pub allRead : List ℕ → List ℕ → Bool
+allRead c [] = true
+allRead c (l ∷ ls) = cond (unread c l) false (allRead c ls)
+
+-- m and the locks that threads of p await
+abbrev pub withAwaited : ℕ → Awaits → ℕ
+withAwaited m Nothing = m
+withAwaited m (For i) = with m (i .«lock_id»)
+
+unfoldable pub awaitedMask : Waits → ℕ → List ℕ → ℕ
+awaitedMask w m p = foldl (λ s t. withAwaited s (intentOf w t)) m p

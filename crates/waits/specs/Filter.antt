@@ -1,0 +1,30 @@
+-- FILTER: a cycle passes when no lock is in the holds of all its threads, locks with a reader not counted.
+use mathlib.Core.List.{List, [], _∷_}
+use mathlib.Core.Bool.{Bool, true, false, cond}
+use Prim.Native.Nat.{ℕ}
+use Rattle.sets.specs.Sets.{has}
+use Rattle.sets.specs.Below.{those}
+use Rattle.waits.specs.Tables.{holdsOf}
+use Rattle.waits.specs.Owners.{readers}
+use Rattle.waits.specs.declared.tables.Waits.{Waits}
+
+-- the list is empty
+abbrev pub nothing : List ℕ → Bool
+nothing [] = true
+nothing (x ∷ l) = false
+
+-- l is in the holds of all threads of p
+unfoldable pub allHold : Waits → ℕ → List ℕ → Bool
+allHold w l [] = true
+allHold w l (t ∷ p) = cond (has (holdsOf w t) l) (allHold w l p) false
+
+-- nobody reads l
+abbrev pub unread : List ℕ → ℕ → Bool
+unread c l = nothing (readers c l)
+
+-- the locks that all of p hold and nobody reads, upward
+unfoldable pub commonLocks : List ℕ → Waits → List ℕ → List ℕ
+commonLocks c w p = those (λ l. cond (allHold w l p) (unread c l) false) 64
+
+abbrev pub passes : List ℕ → Waits → List ℕ → Bool
+passes c w p = nothing (commonLocks c w p)

@@ -1,0 +1,120 @@
+-- The tables that every event may touch, under document 01's names.
+use mathlib.Core.List.{List}
+use Prim.Native.Nat.{ℕ, _<_, _≤_}
+use lib.ListN.{getD, set, replicate}
+use Rattle.sets.specs.Sets.{with, without}
+use Rattle.graph.specs.Search.{row}
+use Rattle.graph.specs.Graph as graph
+use Rattle.graph.specs.declared.wait_for_graph.WaitForGraph.{WaitForGraph}
+use Rattle.waits.specs.declared.tables.Waits.{Waits}
+use Rattle.waits.specs.declared.intent.Slot.{Slot}
+use Rattle.waits.specs.declared.intent.Awaits.{Awaits}
+use Rattle.waits.specs.declared.intent.Awaits.the-variants.{Nothing, For}
+
+-- READING
+abbrev pub noSlot : Slot
+noSlot = record { awaits = Nothing }
+
+-- the intent of thread t, or nothing
+abbrev pub intentOf : Waits → ℕ → Awaits
+intentOf w t = getD (w .«thread_waits_for») t noSlot .awaits
+
+-- the lock that an intent names; 0 where there is none
+abbrev pub lockOf : Awaits → ℕ
+lockOf Nothing = 0
+lockOf (For i) = i .«lock_id»
+
+-- the waiters of lock l, the locks that thread t holds, the mutex owner and the writer of lock l (32: none)
+abbrev pub waitersOf : Waits → ℕ → ℕ
+waitersOf w l = row (w .«lock_waiters») l
+
+abbrev pub holdsOf : Waits → ℕ → ℕ
+holdsOf w t = row (w .«thread_holds») t
+
+abbrev pub ownerOf : Waits → ℕ → ℕ
+ownerOf w l = row (w .«mutex_owners») l
+
+abbrev pub writerOf : Waits → ℕ → ℕ
+writerOf w l = row (w .«rwlock_writer») l
+
+-- WRITING
+abbrev pub withGraph : Waits → WaitForGraph → Waits
+withGraph w g =
+    record {
+      «wait_for_graph» = g;
+      «thread_waits_for» = w .«thread_waits_for»;
+      «lock_waiters» = w .«lock_waiters»;
+      «thread_holds» = w .«thread_holds»;
+      «mutex_owners» = w .«mutex_owners»;
+      «rwlock_writer» = w .«rwlock_writer»;
+    }
+
+abbrev pub withIntents : Waits → List Slot → List ℕ → Waits
+withIntents w s l =
+    record {
+      «wait_for_graph» = w .«wait_for_graph»;
+      «thread_waits_for» = s;
+      «lock_waiters» = l;
+      «thread_holds» = w .«thread_holds»;
+      «mutex_owners» = w .«mutex_owners»;
+      «rwlock_writer» = w .«rwlock_writer»;
+    }
+
+abbrev pub withHolds : Waits → List ℕ → Waits
+withHolds w h =
+    record {
+      «wait_for_graph» = w .«wait_for_graph»;
+      «thread_waits_for» = w .«thread_waits_for»;
+      «lock_waiters» = w .«lock_waiters»;
+      «thread_holds» = h;
+      «mutex_owners» = w .«mutex_owners»;
+      «rwlock_writer» = w .«rwlock_writer»;
+    }
+
+-- the mutex owner, or the writer, of l is o
+abbrev pub own : Waits → ℕ → ℕ → Waits
+own w l o =
+    record {
+      «wait_for_graph» = w .«wait_for_graph»;
+      «thread_waits_for» = w .«thread_waits_for»;
+      «lock_waiters» = w .«lock_waiters»;
+      «thread_holds» = w .«thread_holds»;
+      «mutex_owners» = set (w .«mutex_owners») l o;
+      «rwlock_writer» = w .«rwlock_writer»;
+    }
+
+abbrev pub write : Waits → ℕ → ℕ → Waits
+write w l o =
+    record {
+      «wait_for_graph» = w .«wait_for_graph»;
+      «thread_waits_for» = w .«thread_waits_for»;
+      «lock_waiters» = w .«lock_waiters»;
+      «thread_holds» = w .«thread_holds»;
+      «mutex_owners» = w .«mutex_owners»;
+      «rwlock_writer» = set (w .«rwlock_writer») l o;
+    }
+
+-- l joins, or leaves, t's holds
+abbrev pub hold : Waits → ℕ → ℕ → Waits
+hold w t l = withHolds w (set (w .«thread_holds») t (with (holdsOf w t) l))
+
+abbrev pub unhold : Waits → ℕ → ℕ → Waits
+unhold w t l = withHolds w (set (w .«thread_holds») t (without (holdsOf w t) l))
+
+-- nothing present anywhere
+abbrev pub empty : Waits
+empty =
+    record {
+      «wait_for_graph» = graph.empty;
+      «thread_waits_for» = replicate 32 noSlot;
+      «lock_waiters» = replicate 64 0;
+      «thread_holds» = replicate 32 0;
+      «mutex_owners» = replicate 64 32;
+      «rwlock_writer» = replicate 64 32;
+    }
+
+-- what refusal 2 asks of these tables; their types keep the sets in range
+pub record InRange (w : Waits) : Type 0 where
+  pub locks : (t : ℕ) → lockOf (intentOf w t) < 64
+  pub owner : (l : ℕ) → ownerOf w l ≤ 32
+  pub writer : (l : ℕ) → writerOf w l ≤ 32

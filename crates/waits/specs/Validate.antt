@@ -1,0 +1,48 @@
+-- VALIDATE: non-empty, and each thread truly waits for the next, the last for the first.
+use mathlib.Core.List.{List, [], _∷_}
+use mathlib.Core.Bool.{Bool, true, false, cond}
+use mathlib.Core.Option.{Option, none, some}
+use Prim.Native.Nat.{ℕ}
+use lib.Dec.{eqb}
+use Rattle.sets.specs.Below.{those}
+use Rattle.waits.specs.Tables.{intentOf}
+use Rattle.waits.specs.Owners.{waitsFor}
+use Rattle.waits.specs.Waiting.{Step, refreshLocks}
+use Rattle.waits.specs.Report.{Said, quiet, saying}
+use Rattle.waits.specs.declared.tables.Waits.{Waits}
+use Rattle.waits.specs.declared.intent.Awaits.{Awaits}
+use Rattle.waits.specs.declared.intent.Awaits.the-variants.{Nothing, For}
+
+-- a waits for the first of r, each of r for the next, and the last for f
+unfoldable pub around : List ℕ → Waits → ℕ → ℕ → List ℕ → Bool
+around c w f a [] = waitsFor c w a f
+around c w f a (b ∷ r) = cond (waitsFor c w a b) (around c w f b r) false
+
+unfoldable pub valid : List ℕ → Waits → List ℕ → Bool
+valid c w [] = false
+valid c w (a ∷ r) = around c w a a r
+
+-- a thread of p awaits l
+abbrev pub names : Awaits → ℕ → Bool
+names Nothing l = false
+names (For i) l = eqb (i .«lock_id») l
+
+unfoldable pub awaitedBy : Waits → List ℕ → ℕ → Bool
+awaitedBy w [] l = false
+awaitedBy w (t ∷ p) l = cond (names (intentOf w t) l) true (awaitedBy w p l)
+
+-- the locks that threads of p await, upward, each once
+unfoldable pub awaitedLocks : Waits → List ℕ → List ℕ
+awaitedLocks w p = those (awaitedBy w p) 64
+
+-- after the last refresh: report that path if it validates, else nothing; no second filter
+unfoldable pub checked : List ℕ → Waits → Option (List ℕ) → Said
+checked c w none = quiet w
+checked c w (some p) = cond (valid c w p) (saying w p) (quiet w)
+
+abbrev pub again : List ℕ → Step → Said
+again c s = checked c (s .waits) (s .found)
+
+-- if so, report; if not, refresh the locks its threads await, keep the first path of all, and look once more
+unfoldable pub validate : List ℕ → Waits → List ℕ → Said
+validate c w p = cond (valid c w p) (saying w p) (again c (refreshLocks c w (awaitedLocks w p)))

@@ -1,0 +1,69 @@
+-- CLEAR INTENT, REGISTER, REFRESH.
+use mathlib.Core.List.{List, foldl}
+use mathlib.Core.Option.{Option, none}
+use Prim.Native.Nat.{ℕ}
+use lib.ListN.{set}
+use Rattle.sets.specs.Sets.{with, without, upward}
+use Rattle.graph.specs.Graph.{Adding, adding, clearWaitEdges, addOwners, first}
+use Rattle.waits.specs.Tables.{noSlot, intentOf, waitersOf, withGraph, withIntents}
+use Rattle.waits.specs.Owners.{owners}
+use Rattle.waits.specs.declared.tables.Waits.{Waits}
+use Rattle.waits.specs.declared.intent.WaitIntent.{WaitIntent}
+use Rattle.waits.specs.declared.intent.Awaits.{Awaits}
+use Rattle.waits.specs.declared.intent.Awaits.the-variants.{Nothing, For}
+
+-- the tables after a rule, and the first path that it found
+pub record Step : Type 0 where
+  pub waits : Waits
+  pub found : Option (List ℕ)
+
+-- CLEAR INTENT of t: take t out of the intent and its lock's waiters, drop all edges from t (also without an intent)
+abbrev pub unwaited : Waits → ℕ → Awaits → Waits
+unwaited w t Nothing = w
+unwaited w t (For i) =
+    withIntents w (set (w .«thread_waits_for») t noSlot) (set (w .«lock_waiters») (i .«lock_id») (without (waitersOf w (i .«lock_id»)) t))
+
+unfoldable pub clear : Waits → ℕ → Waits
+clear w t = let u = unwaited w t (intentOf w t) in withGraph u (clearWaitEdges (u .«wait_for_graph») t)
+
+-- REGISTER t: clear, set intent and waiter, ..
+unfoldable pub setIntent : Waits → ℕ → WaitIntent → Waits
+setIntent w t i =
+    let u = clear w t in
+    withIntents u (set (u .«thread_waits_for») t (record { awaits = For i })) (set (u .«lock_waiters») (i .«lock_id») (with (waitersOf u (i .«lock_id»)) t))
+
+-- the tables with another graph, and its path
+abbrev pub linked : Waits → Adding → Step
+linked w k = record { waits = withGraph w (k .graph); found = k .found }
+
+-- .. add an edge to each blocking owner in order; keep the first path, go on with the rest
+unfoldable pub register : List ℕ → Waits → ℕ → WaitIntent → Step
+register c w t i = let u = setIntent w t i in linked u (addOwners t (u .«wait_for_graph») (owners c u i))
+
+-- REFRESH a lock: its waiters are noted first; for each that has an intent, drop its edges and add one to each owner
+-- that blocks its own intent; keep the first path
+abbrev pub after : Adding → Adding → Adding
+after k n = adding (n .graph) (first (k .found) (n .found))
+
+abbrev pub renewFor : List ℕ → Waits → Adding → ℕ → Awaits → Adding
+renewFor c w k t Nothing = k
+renewFor c w k t (For i) = after k (addOwners t (clearWaitEdges (k .graph) t) (owners c w i))
+
+unfoldable pub renew : List ℕ → Waits → Adding → ℕ → Adding
+renew c w k t = renewFor c w k t (intentOf w t)
+
+abbrev pub start : Waits → Adding
+start w = adding (w .«wait_for_graph») none
+
+unfoldable pub renewAll : List ℕ → Waits → List ℕ → Adding
+renewAll c w ts = foldl (renew c w) (start w) ts
+
+unfoldable pub refresh : List ℕ → Waits → ℕ → Step
+refresh c w l = linked w (renewAll c w (upward 32 (waitersOf w l)))
+
+-- several locks, one after the other; keep the first path of all
+unfoldable pub refreshNext : List ℕ → Step → ℕ → Step
+refreshNext c s l = let r = refresh c (s .waits) l in record { waits = r .waits; found = first (s .found) (r .found) }
+
+unfoldable pub refreshLocks : List ℕ → Waits → List ℕ → Step
+refreshLocks c w ls = foldl (refreshNext c) (record { waits = w; found = none }) ls

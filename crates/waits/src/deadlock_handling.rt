@@ -1,0 +1,93 @@
+// The filter by common locks, and the report.
+ghost use mathlib.Core.Path.{_≡_};
+ghost use Prim.Native.Nat.{_+_, _*_, _<_, _≤_};
+ghost use lib.ListN.{length};
+ghost use Rattle.sets.specs.Sets.{upward};
+ghost use Rattle.graph.specs.Code.{Fit, listOf};
+ghost use Rattle.waits.specs.Tables.{InRange};
+ghost use Rattle.waits.specs.Filter.{passes};
+ghost use Rattle.waits.specs.Report.{entryBytes, reportBytes, bytesOf, report, saying};
+ghost use Rattle.waits.specs.Code.{commonMask, allRead, laid, Tells};
+use crate::tables::Told;
+use crate::tables::Waits;
+use crate::wait::reader_mask;
+use graph::Path;
+use sets::locks;
+
+// Does every lock of the set have a reader?
+fn all_read(counts: &[u8; 2048], common: u64) -> bool
+    ensures { λ r. ⌜ r ≡ allRead (now (counts .entry)) (upward 64 common) ⌝ }
+{
+    let mut left = common;
+    while left != 0 {
+        let l = locks::lowest(left);
+        let m = reader_mask(counts, l);
+        if m == 0 {
+            return false;
+        }
+        left = locks::rest(left);
+    }
+    true
+}
+
+impl Waits {
+    // The locks that all threads of a cycle hold.
+    fn common_holds(self, cycle: Path) -> u64
+        requires { ⌜ Fit cycle ⌝ }
+        ensures { λ r. ⌜ r ≡ commonMask (self .«thread_holds») 18446744073709551615 (listOf cycle) ⌝ }
+    {
+        let n = cycle.len;
+        let mut intersection = 0xFFFF_FFFF_FFFF_FFFFu64;
+        let mut i = 0;
+        while i < n {
+            let t = cycle.threads[i] as usize;
+            intersection = intersection & self.thread_holds[t];
+            i += 1;
+        }
+        intersection
+    }
+
+    // Does the cycle pass: do its threads share no lock that nobody reads?
+    pub fn filter_cycle_by_common_locks(self, counts: &[u8; 2048], cycle: Path) -> bool
+        requires { ⌜ Fit cycle ⌝ }
+        ensures { λ r. ⌜ r ≡ passes (now (counts .entry)) self (listOf cycle) ⌝ }
+    {
+        let common = self.common_holds(cycle);
+        all_read(counts, common)
+    }
+
+    // The number of threads, then each with the lock that it awaits.
+    fn write_report(self, cycle: Path, buf: &mut [u8], from: usize) -> usize
+        requires { ⌜ Fit cycle × (from + reportBytes ≤ length (now buf)) ⌝ }
+        ensures { λ r. ⌜ (now (buf .exit) ≡ laid (now (buf .entry)) from (bytesOf (report self (listOf cycle)))) × (r ≡ from + 1 + entryBytes * cycle .len) ⌝ }
+    {
+        let n = cycle.len;
+        buf[from] = n as u8;
+        let mut at = from + 1;
+        let mut i = 0;
+        while i < n {
+            let t = cycle.threads[i];
+            let x = t as usize;
+            let slot = self.thread_waits_for[x];
+            let l = slot.lock();
+            buf[at] = t;
+            buf[at + 1] = l;
+            at += 2;
+            i += 1;
+        }
+        at
+    }
+
+    // One report, from a place on.
+    pub fn report(self, cycle: Path, buf: &mut [u8], from: usize) -> Told
+        requires { ⌜ InRange self × Fit cycle × (from + reportBytes ≤ length (now buf)) ⌝ }
+        ensures { λ r. ⌜ Tells r (now (buf .entry)) (now (buf .exit)) from (saying self (listOf cycle)) ⌝ }
+    {
+        let used = self.write_report(cycle, buf, from);
+        Told {
+            waits: self,
+            reports: 1,
+            used,
+        }
+    }
+}

@@ -1,0 +1,19 @@
+// The words of waiting, the tables that every event may touch, and the rules of waiting over them.
+mod attempt;
+mod deadlock_handling;
+mod intent;
+mod outcome;
+mod tables;
+mod wait;
+
+pub use intent::Awaits;
+pub use intent::Slot;
+pub use intent::WaitIntent;
+pub use intent::WaitMode;
+pub use outcome::Outcome;
+pub use outcome::Tried;
+pub use tables::Linked;
+pub use tables::Owners;
+pub use tables::Told;
+pub use tables::Waits;
+pub use wait::reader_mask;

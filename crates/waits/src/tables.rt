@@ -1,0 +1,58 @@
+// The tables that every event may touch, and what the rules hand back.
+ghost use mathlib.Core.Path.{_≡_};
+ghost use Rattle.waits.specs.Tables.{empty};
+use crate::intent::Awaits;
+use crate::intent::Slot;
+use graph::Sought;
+use graph::WaitForGraph;
+
+pub struct Waits {
+    pub wait_for_graph: WaitForGraph,
+    pub thread_waits_for: [Slot; 32],
+    pub lock_waiters: [u32; 64],
+    pub thread_holds: [u64; 32],
+    pub mutex_owners: [u8; 64],
+    pub rwlock_writer: [u8; 64],
+}
+
+// The owners that block a wait, in order: the readers upward, then the last (32: none).
+pub struct Owners {
+    pub readers: u32,
+    pub last: usize,
+}
+
+// The tables after a registering or a refresh, and the first path found.
+pub struct Linked {
+    pub waits: Waits,
+    pub sought: Sought,
+}
+
+// The tables after a judgement, the number of reports, and the place behind them in the buffer.
+pub struct Told {
+    pub waits: Waits,
+    pub reports: usize,
+    pub used: usize,
+}
+
+impl Waits {
+    // A report's entry: the thread and the lock that it awaits.
+    pub const ENTRY: usize = 2;
+    // The longest report: 32 entries and their number.
+    pub const REPORT: usize = 65;
+
+    pub fn new() -> Waits
+        ensures { λ r. ⌜ r ≡ empty ⌝ }
+    {
+        let wait_for_graph = WaitForGraph::new();
+        Waits {
+            wait_for_graph,
+            thread_waits_for: [Slot {
+                awaits: Awaits::Nothing,
+            }; 32],
+            lock_waiters: [0u32; 64],
+            thread_holds: [0u64; 32],
+            mutex_owners: [32u8; 64],
+            rwlock_writer: [32u8; 64],
+        }
+    }
+}

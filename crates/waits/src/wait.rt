@@ -1,0 +1,330 @@
+// Intents, owners, registering, refreshing, validating: the rules of `wait.rs`.
+ghost use mathlib.Core.Path.{_≡_};
+ghost use mathlib.Core.List.{_++_};
+ghost use mathlib.Core.Option.{none};
+ghost use Prim.Native.Nat.{_+_, _<_, _≤_};
+ghost use lib.ListN.{length};
+ghost use Rattle.sets.specs.Sets.{upward};
+ghost use Rattle.graph.specs.Graph.{one, clearWaitEdges};
+ghost use Rattle.graph.specs.Code.{Fit, listOf, added};
+ghost use Rattle.waits.specs.Tables.{InRange, intentOf, lockOf, withGraph};
+ghost use Rattle.waits.specs.Owners.{readers, owners, waitsFor};
+ghost use Rattle.waits.specs.Waiting.{unwaited, clear, setIntent, register, renewAll, refresh, refreshLocks};
+ghost use Rattle.waits.specs.Validate.{valid, validate};
+ghost use Rattle.waits.specs.Report.{reportBytes};
+ghost use Rattle.waits.specs.Code.{told, renewC, refreshNextC, awaitedMask, withAwaited, Tells};
+use crate::intent::Awaits;
+use crate::intent::Slot;
+use crate::intent::WaitIntent;
+use crate::intent::WaitMode;
+use crate::tables::Linked;
+use crate::tables::Owners;
+use crate::tables::Told;
+use crate::tables::Waits;
+use graph::Added;
+use graph::Path;
+use graph::Sought;
+use sets::locks;
+use sets::threads;
+
+// The readers of a lock, from its 32 counts.
+pub fn reader_mask(counts: &[u8; 2048], lock: usize) -> u32
+    requires { ⌜ lock < 64 ⌝ }
+    ensures { λ r. ⌜ upward 32 r ≡ readers (now (counts .entry)) lock ⌝ }
+{
+    let base = lock * 32;
+    let mut m = 0u32;
+    let mut t = 0;
+    while t < 32 {
+        if counts[base + t] != 0 {
+            m = threads::with(m, t);
+        }
+        t += 1;
+    }
+    m
+}
+
+fn with_awaited(m: u64, s: Slot) -> u64
+    requires { ⌜ lockOf (s .awaits) < 64 ⌝ }
+    ensures { λ r. ⌜ r ≡ withAwaited m (s .awaits) ⌝ }
+{
+    let awaits = s.awaits;
+    let Awaits::For(i) = awaits else {
+        return m;
+    };
+    let l = i.lock_id as usize;
+    locks::with(m, l)
+}
+
+impl Waits {
+    // Takes t out of its intent and its lock's waiters.
+    fn forget_intent(mut self, t: usize) -> Waits
+        requires { ⌜ (t < 32) × InRange self ⌝ }
+        ensures { λ r. ⌜ r ≡ unwaited self t (intentOf self t) ⌝ }
+    {
+        let slot = self.thread_waits_for[t];
+        let awaits = slot.awaits;
+        if let Awaits::For(i) = awaits {
+            let l = i.lock_id as usize;
+            let waiters = self.lock_waiters[l];
+            self.lock_waiters[l] = threads::without(waiters, t);
+            self.thread_waits_for[t] = Slot {
+                awaits: Awaits::Nothing,
+            };
+        }
+        self
+    }
+
+    // Drops all edges from t.
+    fn unlink(mut self, t: usize) -> Waits
+        requires { ⌜ t < 32 ⌝ }
+        ensures { λ r. ⌜ r ≡ withGraph self (clearWaitEdges (self .«wait_for_graph») t) ⌝ }
+    {
+        let g = self.wait_for_graph;
+        let edges = g.edges;
+        if edges[t] != 0 {
+            let next = g.clear_wait_edges(t);
+            self.wait_for_graph = next;
+        }
+        self
+    }
+
+    pub fn clear_wait_intent(self, t: usize) -> Waits
+        requires { ⌜ (t < 32) × InRange self ⌝ }
+        ensures { λ r. ⌜ (r ≡ clear self t) × InRange r ⌝ }
+    {
+        let w = self.forget_intent(t);
+        w.unlink(t)
+    }
+
+    pub fn set_wait_intent(self, t: usize, i: WaitIntent) -> Waits
+        requires { ⌜ (t < 32) × InRange self × (i .«lock_id» < 64) ⌝ }
+        ensures { λ r. ⌜ (r ≡ setIntent self t i) × InRange r ⌝ }
+    {
+        let mut w = self.clear_wait_intent(t);
+        let l = i.lock_id as usize;
+        w.thread_waits_for[t] = Slot {
+            awaits: Awaits::For(i),
+        };
+        let waiters = w.lock_waiters[l];
+        w.lock_waiters[l] = threads::with(waiters, t);
+        w
+    }
+
+    pub fn incompatible_owners(self, counts: &[u8; 2048], i: WaitIntent) -> Owners
+        requires { ⌜ InRange self × (i .«lock_id» < 64) ⌝ }
+        ensures { λ r. ⌜ (upward 32 (r .readers) ++ one (r .last) ≡ owners (now (counts .entry)) self i) × (r .last ≤ 32) ⌝ }
+    {
+        let l = i.lock_id as usize;
+        let mode = i.mode;
+        match mode {
+            WaitMode::Mutex => Owners {
+                readers: 0,
+                last: self.mutex_owners[l] as usize,
+            },
+            WaitMode::RwRead => Owners {
+                readers: 0,
+                last: self.rwlock_writer[l] as usize,
+            },
+            WaitMode::RwWrite => {
+                let readers = reader_mask(counts, l);
+                let last = self.rwlock_writer[l] as usize;
+                if last == 32 {
+                    return Owners { readers, last };
+                }
+                if threads::has(readers, last) {
+                    return Owners { readers, last: 32 };
+                }
+                Owners { readers, last }
+            }
+        }
+    }
+
+    pub fn register_wait(self, counts: &[u8; 2048], t: usize, i: WaitIntent) -> Linked
+        requires { ⌜ (t < 32) × InRange self × (i .«lock_id» < 64) ⌝ }
+        ensures { λ r. ⌜ (r ≡ told (register (now (counts .entry)) self t i)) × InRange (r .waits) ⌝ }
+    {
+        let mut w = self.set_wait_intent(t, i);
+        let o = w.incompatible_owners(counts, i);
+        let g = w.wait_for_graph;
+        let a = g.add_owners(t, o.readers, o.last);
+        let graph = a.graph;
+        let sought = a.sought;
+        w.wait_for_graph = graph;
+        Linked { waits: w, sought }
+    }
+
+    // The edges of one waiter anew, where it has an intent; a path found before is kept.
+    fn renew(self, counts: &[u8; 2048], a: Added, t: usize) -> Added
+        requires { ⌜ (t < 32) × InRange self ⌝ }
+        ensures { λ r. ⌜ r ≡ renewC (now (counts .entry)) self a t ⌝ }
+    {
+        let slot = self.thread_waits_for[t];
+        let awaits = slot.awaits;
+        let Awaits::For(i) = awaits else {
+            return a;
+        };
+        let o = self.incompatible_owners(counts, i);
+        let g = a.graph;
+        let before = a.sought;
+        let n = g.relink(t, o.readers, o.last);
+        let graph = n.graph;
+        let now = n.sought;
+        let sought = before.or(now);
+        Added { graph, sought }
+    }
+
+    pub fn refresh_waiters_for_lock(mut self, counts: &[u8; 2048], l: usize) -> Linked
+        requires { ⌜ (l < 64) × InRange self ⌝ }
+        ensures { λ r. ⌜ (r ≡ told (refresh (now (counts .entry)) self l)) × InRange (r .waits) ⌝ }
+    {
+        let waiters = self.lock_waiters[l];
+        let a = self.renew_all(counts, waiters);
+        let graph = a.graph;
+        let sought = a.sought;
+        self.wait_for_graph = graph;
+        Linked {
+            waits: self,
+            sought,
+        }
+    }
+
+    fn renew_all(self, counts: &[u8; 2048], waiters: u32) -> Added
+        requires { ⌜ InRange self ⌝ }
+        ensures { λ r. ⌜ r ≡ added (renewAll (now (counts .entry)) self (upward 32 waiters)) ⌝ }
+    {
+        let graph = self.wait_for_graph;
+        let sought = Sought::missing();
+        let mut a = Added { graph, sought };
+        let mut left = waiters;
+        while left != 0 {
+            let t = threads::lowest(left);
+            a = self.renew(counts, a, t);
+            left = threads::rest(left);
+        }
+        a
+    }
+
+    // The locks of a set, upward, each once; the first path of all is kept.
+    fn refresh_all(self, counts: &[u8; 2048], set: u64) -> Linked
+        requires { ⌜ InRange self ⌝ }
+        ensures { λ r. ⌜ (r ≡ told (refreshLocks (now (counts .entry)) self (upward 64 set))) × InRange (r .waits) ⌝ }
+    {
+        let sought = Sought::missing();
+        let mut k = Linked {
+            waits: self,
+            sought,
+        };
+        let mut left = set;
+        while left != 0 {
+            let l = locks::lowest(left);
+            k = k.refresh_next(counts, l);
+            left = locks::rest(left);
+        }
+        k
+    }
+
+    // The locks that the threads of a cycle await.
+    fn awaited(self, cycle: Path) -> u64
+        requires { ⌜ InRange self × Fit cycle ⌝ }
+        ensures { λ r. ⌜ r ≡ awaitedMask self 0 (listOf cycle) ⌝ }
+    {
+        let n = cycle.len;
+        let mut m = 0u64;
+        let mut i = 0;
+        while i < n {
+            let t = cycle.threads[i] as usize;
+            let s = self.thread_waits_for[t];
+            m = with_awaited(m, s);
+            i += 1;
+        }
+        m
+    }
+
+    // Does t truly wait for u?
+    pub fn waits_for(self, counts: &[u8; 2048], t: usize, u: usize) -> bool
+        requires { ⌜ (t < 32) × (u < 32) × InRange self ⌝ }
+        ensures { λ r. ⌜ r ≡ waitsFor (now (counts .entry)) self t u ⌝ }
+    {
+        let slot = self.thread_waits_for[t];
+        let awaits = slot.awaits;
+        let Awaits::For(i) = awaits else {
+            return false;
+        };
+        let o = self.incompatible_owners(counts, i);
+        let readers = o.readers;
+        let last = o.last;
+        if last == u {
+            return true;
+        }
+        threads::has(readers, u)
+    }
+
+    pub fn validate_wait_cycle(self, counts: &[u8; 2048], cycle: Path) -> bool
+        requires { ⌜ InRange self × Fit cycle ⌝ }
+        ensures { λ r. ⌜ r ≡ valid (now (counts .entry)) self (listOf cycle) ⌝ }
+    {
+        let n = cycle.len;
+        if n == 0 {
+            return false;
+        }
+        let first = cycle.threads[0] as usize;
+        let mut source = first;
+        let mut i = 1;
+        while i < n {
+            let target = cycle.threads[i] as usize;
+            if self.waits_for(counts, source, target) {
+                source = target;
+                i += 1;
+            } else {
+                return false;
+            }
+        }
+        self.waits_for(counts, source, first)
+    }
+
+    // Reports the cycle if it is true; else refreshes the awaited locks and reports the path found then, if that is.
+    pub fn validated_deadlock_info(
+        self,
+        counts: &[u8; 2048],
+        cycle: Path,
+        buf: &mut [u8],
+        from: usize,
+    ) -> Told
+        requires { ⌜ InRange self × Fit cycle × (from + reportBytes ≤ length (now buf)) ⌝ }
+        ensures { λ r. ⌜ Tells r (now (buf .entry)) (now (buf .exit)) from (validate (now (counts .entry)) self (listOf cycle)) ⌝ }
+    {
+        if self.validate_wait_cycle(counts, cycle) {
+            return self.report(cycle, buf, from);
+        }
+        let set = self.awaited(cycle);
+        let k = self.refresh_all(counts, set);
+        let w = k.waits;
+        let s = k.sought;
+        let refreshed = s.path;
+        if w.validate_wait_cycle(counts, refreshed) {
+            return w.report(refreshed, buf, from);
+        }
+        Told {
+            waits: w,
+            reports: 0,
+            used: from,
+        }
+    }
+}
+
+impl Linked {
+    // One lock more.
+    fn refresh_next(self, counts: &[u8; 2048], l: usize) -> Linked
+        requires { ⌜ (l < 64) × InRange (self .waits) ⌝ }
+        ensures { λ r. ⌜ (r ≡ refreshNextC (now (counts .entry)) self l) × InRange (r .waits) ⌝ }
+    {
+        let w = self.waits;
+        let before = self.sought;
+        let n = w.refresh_waiters_for_lock(counts, l);
+        let waits = n.waits;
+        let later = n.sought;
+        let sought = before.or(later);
+        Linked { waits, sought }
+    }
+}
