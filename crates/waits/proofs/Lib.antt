@@ -3,3 +3,5 @@ pub mod Laws
 pub mod Steps
 pub mod Masks
 pub mod Telling
+-- The rules, run
+pub mod Readings

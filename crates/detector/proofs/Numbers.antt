@@ -1,0 +1,95 @@
+-- What it means that an event is not refused.
+use mathlib.Core.Path.{_≡_, refl, sym, ap, _∙_}
+use mathlib.Core.Bool.{Bool, true, false, cond}
+use Prim.Native.Nat.{ℕ, _<_}
+use native.Mathlib.Omega.{arith}
+use native.Mathlib.Decide.{decLt}
+use lib.Dec.{ltb}
+use lib.ListN.{getD, length, List·getD-map}
+use lib.Seq.{length-take-le}
+use borrow.Author.Tests.{ltb-true, ltb-false, le-ltb}
+use Rattle.detector.specs.Tables.{queueOf}
+use Rattle.detector.specs.Refusals.{Numbers, Inside, numbersOf, outside, fullQueue, full, refusal}
+use Rattle.detector.specs.Tables.{Tables}
+use Rattle.detector.specs.State.{tables, pairsOf, blankQueue, Valid}
+use Rattle.detector.specs.declared.event.Event.{Event}
+use Rattle.detector.specs.declared.state.Detector.{Detector}
+
+abbrev chosen : Bool → Bool → Bool → Bool → Bool → ℕ → ℕ
+chosen t h l c r next = cond t 3 (cond h 3 (cond l 4 (cond c 5 (cond r 6 next))))
+
+module _ (n : Numbers) (room : ℕ) where
+  -- inside, the numbers refuse nothing, and what is next decides
+  pub inside-next : (next : ℕ) → Inside n room → outside n room next ≡ next
+  unfolding outside
+  inside-next next i =
+      rw (le-ltb 31 (n .thread) (omega (arith, i .thread)), le-ltb 31 (n .hint) (omega (arith, i .hint)), le-ltb 63 (n .lock) (omega (arith, i .lock)), le-ltb 15 (n .condvar) (omega (arith, i .condvar)), le-ltb room 2080 (i .room))
+
+  Refusing : (k next : ℕ) → Type 0
+  Refusing k next = ((k ≡ 0) → Inside n room) × ((0 < k) → outside n room next ≡ k)
+
+  cases : (next : ℕ) → Refusing (outside n room 0) next
+  unfolding outside Refusing
+  cases next = go (ltb 31 (n .thread)) (ltb 31 (n .hint)) (ltb 63 (n .lock)) (ltb 15 (n .condvar)) (ltb room 2080) refl refl refl refl refl
+    where
+      go : (t h l c r : Bool) → ltb 31 (n .thread) ≡ t → ltb 31 (n .hint) ≡ h → ltb 63 (n .lock) ≡ l → ltb 15 (n .condvar) ≡ c → ltb room 2080 ≡ r
+          → ((chosen t h l c r 0 ≡ 0) → Inside n room) × ((0 < chosen t h l c r 0) → chosen t h l c r next ≡ chosen t h l c r 0)
+      go true h l c r p q s u v = (λ e. absurd (omega arith), λ e. refl)
+      go false true l c r p q s u v = (λ e. absurd (omega arith), λ e. refl)
+      go false false true c r p q s u v = (λ e. absurd (omega arith), λ e. refl)
+      go false false false true r p q s u v = (λ e. absurd (omega arith), λ e. refl)
+      go false false false false true p q s u v = (λ e. absurd (omega arith), λ e. refl)
+      go false false false false false p q s u v = (
+        λ e. record {
+          thread = let k = ltb-false 31 (n .thread) p in omega arith;
+          hint = let k = ltb-false 31 (n .hint) q in omega arith;
+          lock = let k = ltb-false 63 (n .lock) s in omega arith;
+          condvar = let k = ltb-false 15 (n .condvar) u in omega arith;
+          room = ltb-false room 2080 v;
+        },
+        λ e. absurd (omega arith),
+      )
+
+  pub inside : outside n room 0 ≡ 0 → Inside n room
+  unfolding Refusing
+  inside e = cases 0 .0 e
+
+  pub outside-first : (next : ℕ) → 0 < outside n room 0 → outside n room next ≡ outside n room 0
+  unfolding Refusing
+  outside-first next h = cases next .1 h
+
+-- an accepted event: its numbers lie inside, and nothing is full
+pub record Accepted (x : Tables) (room : ℕ) (e : Event) : Type 0 where
+  pub inside : Inside (numbersOf e) room
+  pub notFull : full x e ≡ 0
+
+pub accepted : (x : Tables) (room : ℕ) (e : Event) → refusal x room e ≡ 0 → Accepted x room e
+unfolding refusal
+accepted x room e r = go (outside (numbersOf e) room 0) refl
+  where
+    go : (k : ℕ) → outside (numbersOf e) room 0 ≡ k → Accepted x room e
+    go k q = yes-no (decLt 0 k)
+      where
+        yes-no : Dec (0 < k) → Accepted x room e
+        yes-no (yes h) = absurd (omega (arith, outside-first (numbersOf e) room (full x e) (rw q h), q, r))
+        yes-no (no h) =
+            let i = inside (numbersOf e) room (omega (arith, q)) in
+            record { inside = i; notFull = sym (inside-next (numbersOf e) room (full x e) i) ∙ r }
+
+-- a queue's length as the code keeps it
+pub queue-at : (d : Detector) (c : ℕ) → queueOf (tables d) c ≡ pairsOf (getD (d .rest .«cv_waiters») c blankQueue)
+queue-at d c = List·getD-map pairsOf (d .rest .«cv_waiters») c blankQueue
+
+pub queue-length : (d : Detector) (c : ℕ) → Valid d → c < 16 → length (queueOf (tables d) c) ≡ getD (d .rest .«cv_waiters») c blankQueue .len
+queue-length d c v h =
+    let q = getD (d .rest .«cv_waiters») c blankQueue in
+    let k = v .queues c h in
+    ap length (queue-at d c) ∙ length-take-le (q .len) (q .pairs) (omega (arith, k .long, k .cells))
+
+-- a queue that is not full has room for one pair more
+pub room-left : (d : Detector) (c : ℕ) → Valid d → c < 16 → fullQueue (tables d) c ≡ 0 → getD (d .rest .«cv_waiters») c blankQueue .len < 32
+room-left d c v h e = go (ltb (length (queueOf (tables d) c)) 32) refl e
+  where
+    go : (b : Bool) → ltb (length (queueOf (tables d) c)) 32 ≡ b → _≡_ {A = ℕ} (cond b 0 7) 0 → getD (d .rest .«cv_waiters») c blankQueue .len < 32
+    go true q e = let k = ltb-true (length (queueOf (tables d) c)) 32 q in omega (arith, queue-length d c v h)
+    go false q e = absurd (omega arith)

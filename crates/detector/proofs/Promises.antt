@@ -1,0 +1,161 @@
+-- How an event's promise follows from what its parts promise.
+use mathlib.Core.Path.{_≡_, refl, sym, ap, _∙_, subst}
+use mathlib.Core.List.{List}
+use mathlib.Core.Bool.{true, false, not, cond, true≢false, false≢true}
+use Prim.Native.Nat.{ℕ, zero, suc, _+_, _*_, _-_, _<_}
+use native.Mathlib.Omega.{arith}
+use lib.ListN.{length, getD, replicate, getD-replicate}
+use lib.Seq.{getD-set-same}
+use lib.Dec.{eqb, lit<, lit≤}
+use borrow.Author.Tests.{not-false, eqb-true, eq-eqb}
+use Rattle.waits.specs.Tables.{InRange, waitersOf}
+use Rattle.waits.specs.Report.{Said, quiet, written}
+use Rattle.waits.specs.Attempt.{settle}
+use Rattle.waits.specs.Code.{Tells}
+use Rattle.waits.specs.declared.tables.Waits.{Waits}
+use Rattle.waits.specs.declared.tables.Told.{Told}
+use Rattle.waits.specs.declared.outcome.Outcome.{Outcome}
+use Rattle.waits.specs.declared.outcome.Outcome.the-variants.{Took, Blocked, Hinted}
+use Rattle.waits.proofs.Telling.{laid-none, laid-length, settle-idle}
+use Rattle.detector.specs.Tables.{Tables, Answer, noPair, noWait, blankWait, withWaits, withCounts, silent, said}
+use Rattle.detector.specs.Mutex.{completeAcquire, acquireSlow, mutexAttempt}
+use Rattle.detector.specs.RwLock.{countUp, countDown, completeRead, acquireRead, readAttempt, completeWrite, acquireWrite, writeAttempt}
+use Rattle.waits.specs.Owners.{countOf}
+use Rattle.detector.specs.Refusals.{fullCount, fullAttempt}
+use Rattle.detector.specs.State.{tables, blankQueue, Queued, Waiting, Valid, Does}
+use Rattle.waits.specs.Tables as waiting
+use Rattle.waits.proofs.Laws.{range-empty}
+use Rattle.detector.specs.declared.state.Queue.{Queue}
+use Rattle.detector.specs.declared.state.Rest.{Rest}
+use Rattle.detector.specs.Code.{emptyQueue, putWaits, putCounts, blocked, triedMutex, triedRead, triedWrite, mustLook, lookedMutex, lookedWrite}
+use Rattle.detector.specs.declared.state.Detector.{Detector}
+use Rattle.detector.specs.declared.reply.Done.{Done}
+
+-- ---- the state stays valid where the waits stay in range
+
+valid-waits : (d : Detector) (w : Waits) (n : ℕ) → Valid d → InRange w → Valid (putWaits d w n .detector)
+valid-waits d w n v s = record { waits = s; queues = v .queues; waiting = v .waiting }
+
+valid-counts : (d : Detector) (w : Waits) (c : List ℕ) → Valid d → InRange w → Valid (putCounts d w c .detector)
+valid-counts d w c v s = record { waits = s; queues = v .queues; waiting = v .waiting }
+
+-- ---- promises
+
+pub redo : {r : Done} {b e : List ℕ} {a z : Answer} → a ≡ z → Does r b e a → Does r b e z
+redo {r} {b} {e} q t = subst (Does r b e) q t
+
+-- what was told is what was said
+pub does-told : (d : Detector) (r : Done) (k : Told) (b e : List ℕ) (a : Said) → r ≡ putWaits d (k .waits) (k .reports) → Valid d → Tells k b e 0 a → Does r b e (said (tables d) a)
+does-told d r k b e a q v t = subst (λ (x : Done). Does x b e (said (tables d) a)) (sym q) told
+  where
+    told : Does (putWaits d (k .waits) (k .reports)) b e (said (tables d) a)
+    told =
+        record {
+          state = ap (withWaits (tables d)) (t .waits);
+          count = t .count;
+          bytes = t .bytes;
+          valid = valid-waits d (k .waits) (k .reports) v (t .inRange);
+        }
+
+pub does-waits : (d : Detector) (r : Done) (w : Waits) → r ≡ putWaits d w 0 → Valid d → InRange w → (b : List ℕ) → Does r b b (silent (withWaits (tables d) w))
+unfolding written
+does-waits d r w q v s b =
+    subst (λ (x : Done). Does x b b (silent (withWaits (tables d) w))) (sym q)
+    (record { state = refl; count = refl; bytes = sym (laid-none b 0); valid = valid-waits d w 0 v s })
+
+pub does-counts : (d : Detector) (r : Done) (w : Waits) (c : List ℕ) → r ≡ putCounts d w c → Valid d → InRange w → (b : List ℕ) → Does r b b (silent (withCounts (tables d) w c))
+unfolding written
+does-counts d r w c q v s b =
+    subst (λ (x : Done). Does x b b (silent (withCounts (tables d) w c))) (sym q)
+    (record { state = refl; count = refl; bytes = sym (laid-none b 0); valid = valid-counts d w c v s })
+
+-- ---- a look that is not needed tells nothing
+
+pub unneeded : (c : List ℕ) (w : Waits) (l : ℕ) → waitersOf w l ≡ 0 → quiet w ≡ settle c w l
+unneeded c w l e = sym (settle-idle c w l e)
+
+took-alone : (w : Waits) (l : ℕ) → not (eqb (waitersOf w l) 0) ≡ false → waitersOf w l ≡ 0
+took-alone w l e = eqb-true (waitersOf w l) 0 (not-false (eqb (waitersOf w l) 0) e)
+
+pub mutex-unneeded : (c : List ℕ) (w : Waits) (t l : ℕ) (o : Outcome) → mustLook w l o ≡ false → quiet w ≡ lookedMutex c w t l o
+mutex-unneeded c w t l Took e = unneeded c w l (took-alone w l e)
+mutex-unneeded c w t l Blocked e = absurd (true≢false e)
+mutex-unneeded c w t l (Hinted o) e = absurd (true≢false e)
+
+pub write-unneeded : (c : List ℕ) (w : Waits) (t l : ℕ) (o : Outcome) → mustLook w l o ≡ false → quiet w ≡ lookedWrite c w t l o
+write-unneeded c w t l Took e = unneeded c w l (took-alone w l e)
+write-unneeded c w t l Blocked e = absurd (true≢false e)
+write-unneeded c w t l (Hinted o) e = absurd (true≢false e)
+
+-- ---- the rules by how the try came out
+
+pub mutex-looked : (x : Tables) (t l : ℕ) (o : Outcome) → said x (lookedMutex (x .«rwlock_readers») (triedMutex (x .waits) t l o) t l o) ≡ mutexAttempt x t l o
+unfolding completeAcquire acquireSlow
+mutex-looked x t l Took = refl
+mutex-looked x t l Blocked = refl
+mutex-looked x t l (Hinted o) = refl
+
+pub write-looked : (x : Tables) (t l : ℕ) (o : Outcome) → said x (lookedWrite (x .«rwlock_readers») (triedWrite (x .waits) t l o) t l o) ≡ writeAttempt x t l o
+unfolding completeWrite acquireWrite
+write-looked x t l Took = refl
+write-looked x t l Blocked = refl
+write-looked x t l (Hinted o) = refl
+
+pub read-blocked : (x : Tables) (t l : ℕ) (o : Outcome) → blocked o ≡ true → acquireRead x (triedRead (x .waits) t l o) t l ≡ readAttempt x t l o
+read-blocked x t l Took e = absurd (false≢true e)
+read-blocked x t l Blocked e = refl
+read-blocked x t l (Hinted o) e = refl
+
+pub read-took : (x : Tables) (t l : ℕ) (o : Outcome) → blocked o ≡ false → silent (withCounts x (triedRead (x .waits) t l o) (countUp (x .«rwlock_readers») l t)) ≡ readAttempt x t l o
+unfolding completeRead
+read-took x t l Took e = refl
+read-took x t l Blocked e = absurd (true≢false e)
+read-took x t l (Hinted o) e = absurd (true≢false e)
+
+-- ---- a count that may rise
+
+pub not-full : (x : Tables) (t l : ℕ) → fullCount x t l ≡ 0 → countOf (x .«rwlock_readers») l t ≡ 255 → ⊥
+not-full x t l e q = omega (arith, sym (ap (λ b. cond b 8 0) (eq-eqb (countOf (x .«rwlock_readers») l t) 255 q)) ∙ e)
+
+pub read-count : (x : Tables) (t l : ℕ) (o : Outcome) → blocked o ≡ false → fullAttempt x t l o ≡ 0 → fullCount x t l ≡ 0
+read-count x t l Took e f = f
+read-count x t l Blocked e f = absurd (true≢false e)
+read-count x t l (Hinted o) e f = absurd (true≢false e)
+
+-- the count after it fell
+pub count-down-at : (c : List ℕ) (l t : ℕ) → l * 32 + t < length c → countOf (countDown c l t) l t ≡ countOf c l t - 1
+unfolding countDown
+count-down-at c l t h = getD-set-same c (l * 32 + t) (countOf c l t - 1) 0 h
+
+pub tells-length : {r : Told} {b e : List ℕ} {from : ℕ} {a : Said} → Tells r b e from a → length e ≡ length b
+tells-length {b = b} {from = from} {a = a} t = ap length (t .bytes) ∙ laid-length b from (written (a .reports))
+
+-- ---- the empty state is valid
+
+getD-same : {A : Type 0} (n k : ℕ) (v d : A) → (P : A → Type 0) → P v → P d → P (getD (replicate n v) k d)
+getD-same zero k v d P p q = q
+getD-same (suc n) zero v d P p q = p
+getD-same (suc n) (suc k) v d P p q = getD-same n k v d P p q
+
+abbrev pub newRest : Rest
+newRest = record { «rwlock_readers» = replicate 2048 0; «cv_waiters» = replicate 16 emptyQueue; «thread_wait_cv» = replicate 32 noWait }
+
+queued-empty : Queued emptyQueue
+queued-empty =
+    record {
+      long = lit≤ tt;
+      cells = refl;
+      threads = λ k. getD-same 32 k noPair noPair (λ p. p .thread < 32) (lit< tt) (lit< tt);
+      locks = λ k. getD-same 32 k noPair noPair (λ p. p .lock < 64) (lit< tt) (lit< tt);
+      behind = λ k h. getD-same 32 k noPair noPair (λ p. p ≡ noPair) refl refl;
+    }
+
+pub valid-new : Valid (record { waits = waiting.empty; «cv_woken» = 0; rest = newRest })
+valid-new =
+    record {
+      waits = range-empty;
+      queues = λ c h. subst (λ (q : Queue). Queued q) (sym (getD-replicate 16 c emptyQueue blankQueue h)) queued-empty;
+      waiting = λ t. getD-same 32 t noWait blankWait Waiting
+          (record { condvar = lit≤ tt; lock = lit< tt; absent = λ e. refl })
+          (record { condvar = lit≤ tt; lock = lit< tt; absent = λ e. refl });
+    }

@@ -1,0 +1,53 @@
+-- What the events do to the waits keeps them in range.
+use mathlib.Core.List.{List}
+use mathlib.Core.Bool.{Bool, true, false, cond}
+use Prim.Native.Nat.{ℕ, _<_}
+use native.Mathlib.Omega.{arith}
+use lib.Dec.{eqb, lit≤}
+use Rattle.sets.proofs.Below.{each-keeps}
+use Rattle.waits.specs.Tables.{InRange, intentOf, ownerOf, writerOf, withHolds, own, write, unhold}
+use Rattle.waits.specs.Waiting.{clear}
+use Rattle.waits.specs.Validate.{names}
+use Rattle.waits.specs.declared.tables.Waits.{Waits}
+use Rattle.waits.proofs.Laws.{range-own, range-write, range-clear, range-graph}
+use Rattle.detector.specs.Mutex.{acquired, released, clearNaming, unholdAll, purge}
+use Rattle.detector.specs.RwLock.{written, unwritten, loosen}
+
+range-holds : (w : Waits) (h : List ℕ) → InRange w → InRange (withHolds w h)
+range-holds w h s = record { locks = s .locks; owner = s .owner; writer = s .writer }
+
+range-cond : (b : Bool) (v w : Waits) → InRange v → InRange w → InRange (cond b v w)
+range-cond true v w p q = p
+range-cond false v w p q = q
+
+pub range-acquired : (w : Waits) (t l : ℕ) → t < 32 → InRange w → InRange (acquired w t l)
+unfolding acquired
+range-acquired w t l h s = range-clear _ t (range-holds (own w l t) _ (range-own w l t (omega arith) s))
+
+pub range-released : (w : Waits) (t l : ℕ) → InRange w → InRange (released w t l)
+unfolding released
+range-released w t l s = range-holds _ _ (range-cond (eqb (ownerOf w l) t) (own w l 32) w (range-own w l 32 (lit≤ tt) s) s)
+
+pub range-written : (w : Waits) (t l : ℕ) → t < 32 → InRange w → InRange (written w t l)
+unfolding written
+range-written w t l h s = range-clear _ t (range-holds (write w l t) _ (range-write w l t (omega arith) s))
+
+pub range-unwritten : (w : Waits) (t l : ℕ) → InRange w → InRange (unwritten w t l)
+unfolding unwritten
+range-unwritten w t l s = range-holds _ _ (range-cond (eqb (writerOf w l) t) (write w l 32) w (range-write w l 32 (lit≤ tt) s) s)
+
+pub range-loosen : (w : Waits) (t l : ℕ) → InRange w → InRange (loosen w t l)
+unfolding loosen
+range-loosen w t l s = range-graph w _ s
+
+pub range-naming : (w : Waits) (l : ℕ) → InRange w → InRange (clearNaming w l)
+unfolding clearNaming
+range-naming w l s =
+    each-keeps InRange (λ v t. cond (names (intentOf w t) l) (clear v t) v) 32 w
+    (λ v t h p. range-cond (names (intentOf w t) l) (clear v t) v (range-clear v t p) p) s
+
+pub range-purge : (w : Waits) (l : ℕ) → InRange w → InRange (purge w l)
+unfolding purge unholdAll
+range-purge w l s =
+    let v = each-keeps InRange (λ v t. unhold v t l) 32 w (λ v t h p. range-holds v _ p) s in
+    record { locks = v .locks; owner = v .owner; writer = v .writer }

@@ -1,0 +1,34 @@
+use Rattle.detector.specs.Refusals.{outside}
+use borrow.Author.Tests.{lt-ltb, le-ltb}
+use Rattle.detector.proofs.refusal.outside.Statement.{statement}
+use Rattle.detector.proofs.refusal.outside.Tie as tie
+
+returns : tie.Need-returns
+unfolding outside
+returns c = rw (lt-ltb 31 _ (c .if1 .taken))
+
+returns-2 : tie.Need-returns-2
+unfolding outside
+returns-2 c = rw (le-ltb 31 _ (c .before .if1 .left), lt-ltb 31 _ (c .if2 .taken))
+
+returns-3 : tie.Need-returns-3
+unfolding outside
+returns-3 c = rw (le-ltb 31 _ (c .before .before .if1 .left), le-ltb 31 _ (c .before .if2 .left), lt-ltb 63 _ (c .if3 .taken))
+
+returns-4 : tie.Need-returns-4
+unfolding outside
+returns-4 c =
+    rw (le-ltb 31 _ (c .before .before .before .if1 .left), le-ltb 31 _ (c .before .before .if2 .left), le-ltb 63 _ (c .before .if3 .left), lt-ltb 15 _ (c .if4 .taken))
+
+returns-5 : tie.Need-returns-5
+unfolding outside
+returns-5 c =
+    rw (le-ltb 31 _ (c .before .before .before .before .if1 .left), le-ltb 31 _ (c .before .before .before .if2 .left), le-ltb 63 _ (c .before .before .if3 .left), le-ltb 15 _ (c .before .if4 .left), lt-ltb _ 2080 (c .if5 .taken))
+
+returns-6 : tie.Need-returns-6
+unfolding outside
+returns-6 c =
+    rw (le-ltb 31 _ (c .before .before .before .before .if1 .left), le-ltb 31 _ (c .before .before .before .if2 .left), le-ltb 63 _ (c .before .before .if3 .left), le-ltb 15 _ (c .before .if4 .left), le-ltb _ 2080 (c .if5 .left))
+
+pub outside-spec : {M : Type 1} → statement M
+outside-spec = tie.close (tie.spec returns returns-2 returns-3 returns-4 returns-5 returns-6)

@@ -1,0 +1,88 @@
+use Rattle.waits.specs.Tables.{InRange}
+use Rattle.detector.proofs.Promises.{redo, does-counts, count-down-at}
+use Rattle.detector.specs.State.{tables}
+use Rattle.detector.specs.Tables.{withCounts, silent}
+use Rattle.detector.specs.RwLock.{releaseRead, countDown, loosen}
+use Rattle.waits.specs.Owners.{countOf}
+use borrow.Author.Needs.{needs}
+use mathlib.Core.Path.{_≡_, sym, ap, ap₂, _∙_}
+use mathlib.Core.Logic.{⊎-elim}
+use mathlib.Core.Bool.{cond}
+use Prim.Native.Nat.{_+_, _*_, _-_}
+use native.Mathlib.Omega.{arith}
+use lib.Dec.{eqb}
+use lib.ListN.{length, getD}
+use borrow.Author.Tests.{eq-eqb, ne-eqb}
+use Rattle.detector.proofs.state.Detector.release_read.Statement.{statement}
+use Rattle.detector.proofs.state.Detector.release_read.Tie as tie
+
+-- the count after it fell
+fallen : (c : tie.Joined1)
+    → getD (c .before .before .counted-down .result) (c .before .before .before .before .args .l * 32 + c .before .before .before .before .args .t) 0
+    ≡ countOf (c .before .before .before .before .args .self .rest .«rwlock_readers») (c .before .before .before .before .args .l) (c .before .before .before .before .args .t) - 1
+fallen c =
+    let a = c .before .before .before .before .args in
+    let n : length (a .self .rest .«rwlock_readers») ≡ 2048 = search needs in
+    let e = c .before .before .counted-down .ensures ∙ ap (λ k. countDown k (a .l) (a .t)) (c .before .before .before .readers .ensures) in
+    ap (λ k. countOf k (a .l) (a .t)) e ∙ count-down-at (a .self .rest .«rwlock_readers») (a .l) (a .t) (omega (arith, c .before .before .before .before .pre .1, c .before .before .before .before .pre .2))
+
+-- where the arms meet: the edges go where the count is 0 now
+met : (c : tie.Joined1)
+    → c .if1 .w
+    ≡ cond (eqb (countOf (c .before .before .before .before .args .self .rest .«rwlock_readers») (c .before .before .before .before .args .l) (c .before .before .before .before .args .t) - 1) 0)
+    (loosen (c .before .before .before .before .args .self .waits) (c .before .before .before .before .args .t) (c .before .before .before .before .args .l))
+    (c .before .before .before .before .args .self .waits)
+met c =
+    let a = c .before .before .before .before .args in
+    ⊎-elim
+    (λ z. rw (z .2, z .1 .ensures .0, eq-eqb _ _ (sym (fallen c) ∙ z .0 .taken)))
+    (λ z. rw (z .1, ne-eqb _ _ (λ e. z .0 .left (fallen c ∙ e))))
+    (c .if1 .came)
+
+ranged : (c : tie.Joined1) → InRange (c .if1 .w)
+ranged c = ⊎-elim (λ z. rw (z .2) (z .1 .ensures .1)) (λ z. rw (z .1) (c .before .before .before .before .pre .0 .waits)) (c .if1 .came)
+
+readers-requires : tie.Need-readers-requires
+readers-requires c κs = search needs
+
+counted-down-requires : tie.Need-counted-down-requires
+counted-down-requires c κs = search needs
+
+mul-at : tie.Need-mul-at
+mul-at c = search needs
+
+add-at : tie.Need-add-at
+add-at c = search needs
+
+array-read-if1 : tie.Need-array-read-if1
+array-read-if1 c = search needs
+
+loosened-requires : tie.Need-loosened-requires
+loosened-requires c κs = search needs
+
+with-counts-requires : tie.Need-with-counts-requires
+with-counts-requires c κs = search needs
+
+returns : tie.Need-returns
+unfolding releaseRead
+returns c =
+    let j = c .before in
+    let s = j .before .before .before .before in
+    let a = s .args in
+    let n = j .before .before .counted-down .ensures ∙ ap (λ k. countDown k (a .l) (a .t)) (j .before .before .before .readers .ensures) in
+    λ b.
+    redo (ap₂ (λ w k. silent (withCounts (tables (a .self)) w k)) (met j) n)
+    (does-counts (a .self) _ _ _ (c .with-counts .ensures) (s .pre .0) (ranged j) b)
+
+pub release-read-spec : {M : Type 1} → statement M
+release-read-spec =
+    tie.close
+    (tie.spec
+    readers-requires
+    counted-down-requires
+    mul-at
+    add-at
+    array-read-if1
+    loosened-requires
+    with-counts-requires
+    returns)

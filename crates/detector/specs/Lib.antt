@@ -1,0 +1,10 @@
+-- The detector of document 01: its tables, its events, its refusals.
+pub mod Tables
+pub mod Mutex
+pub mod RwLock
+pub mod Condvar
+pub mod Events
+pub mod Refusals
+pub mod State
+pub mod Stuck
+pub mod Code

@@ -1,0 +1,109 @@
+-- The events of a readers-writer lock: ra, rc, rt, rr, wa, wc, wr, rd. Reads never enter the holds.
+use mathlib.Core.List.{List}
+use mathlib.Core.Bool.{Bool, false, cond}
+use Prim.Native.Nat.{ℕ, _+_, _*_, _-_}
+use lib.Dec.{eqb}
+use lib.ListN.{set}
+use Rattle.sets.specs.Sets.{upward}
+use Rattle.sets.specs.Below.{each}
+use Rattle.graph.specs.Graph.{removeEdgesTo}
+use Rattle.waits.specs.Tables.{waitersOf, writerOf, withGraph, write, hold, unhold}
+use Rattle.waits.specs.Owners.{countOf}
+use Rattle.waits.specs.Waiting.{clear, refresh}
+use Rattle.waits.specs.Filter.{unread}
+use Rattle.waits.specs.Report.{Said, quiet}
+use Rattle.waits.specs.Attempt.{settle, block}
+use Rattle.waits.specs.declared.tables.Waits.{Waits}
+use Rattle.waits.specs.declared.intent.WaitIntent.{WaitIntent}
+use Rattle.waits.specs.declared.intent.WaitMode.the-variants.{RwRead, RwWrite}
+use Rattle.waits.specs.declared.outcome.Outcome.{Outcome}
+use Rattle.waits.specs.declared.outcome.Outcome.the-variants.{Took, Blocked, Hinted}
+use Rattle.waits.specs.declared.outcome.Tried.{Tried}
+use Rattle.waits.specs.declared.outcome.Tried.the-variants.{Taken, Missed}
+use Rattle.detector.specs.Tables.{Tables, Answer, withWaits, withCounts, silent, said}
+use Rattle.detector.specs.Mutex.{purge}
+
+-- the counts with n for lock l and thread t
+abbrev pub setCount : List ℕ → ℕ → ℕ → ℕ → List ℕ
+setCount c l t n = set c (l * 32 + t) n
+
+unfoldable pub countUp : List ℕ → ℕ → ℕ → List ℕ
+countUp c l t = setCount c l t (countOf c l t + 1)
+
+unfoldable pub countDown : List ℕ → ℕ → ℕ → List ℕ
+countDown c l t = setCount c l t (countOf c l t - 1)
+
+-- rc t l: count + 1; clear t; no refresh
+unfoldable pub completeRead : Tables → ℕ → ℕ → Answer
+completeRead x t l = silent (withCounts x (clear (x .waits) t) (countUp (x .«rwlock_readers») l t))
+
+-- ra t l o: took: as rc. Blocked: a hint becomes writer; register RwRead; validate, no filter
+abbrev pub readOn : ℕ → WaitIntent
+readOn l = record { «lock_id» = l; mode = RwRead }
+
+unfoldable pub acquireRead : Tables → Waits → ℕ → ℕ → Answer
+acquireRead x w t l = said x (block (x .«rwlock_readers») w t (readOn l))
+
+abbrev pub readAttempt : Tables → ℕ → ℕ → Outcome → Answer
+readAttempt x t l Took = completeRead x t l
+readAttempt x t l Blocked = acquireRead x (x .waits) t l
+readAttempt x t l (Hinted o) = acquireRead x (write (x .waits) l o) t l
+
+-- rt t l o: took: count + 1; refresh l, path dropped; t's intent stays. Blocked: nothing
+unfoldable pub tryRead : Tables → ℕ → ℕ → Answer
+tryRead x t l = let c = countUp (x .«rwlock_readers») l t in silent (withCounts x (refresh c (x .waits) l .waits) c)
+
+abbrev pub readTry : Tables → ℕ → ℕ → Tried → Answer
+readTry x t l Taken = tryRead x t l
+readTry x t l Missed = silent x
+
+-- edges from l's waiters to t go
+unfoldable pub loosen : Waits → ℕ → ℕ → Waits
+loosen w t l = withGraph w (removeEdgesTo t (w .«wait_for_graph») (upward 32 (waitersOf w l)))
+
+-- rr t l: count - 1 if above 0; if 0 now or before, drop edges from l's waiters to t
+unfoldable pub releaseRead : Tables → ℕ → ℕ → Answer
+releaseRead x t l =
+    let c = x .«rwlock_readers» in
+    silent (withCounts x (cond (eqb (countOf c l t - 1) 0) (loosen (x .waits) t l) (x .waits)) (countDown c l t))
+
+-- wc t l: writer is t; then as mc from the holds on
+unfoldable pub written : Waits → ℕ → ℕ → Waits
+written w t l = clear (hold (write w l t) t l) t
+
+unfoldable pub completeWrite : Tables → ℕ → ℕ → Answer
+completeWrite x t l = said x (settle (x .«rwlock_readers») (written (x .waits) t l) l)
+
+-- wa t l o: took: as wc. Blocked: a hint becomes writer; with a reader or writer register RwWrite and validate, no
+-- filter; with neither, nothing, t's old intent stays
+abbrev pub writeOn : ℕ → WaitIntent
+writeOn l = record { «lock_id» = l; mode = RwWrite }
+
+-- neither reader nor writer
+abbrev pub free : List ℕ → Waits → ℕ → Bool
+free c w l = cond (unread c l) (eqb (writerOf w l) 32) false
+
+unfoldable pub blockWrite : List ℕ → Waits → ℕ → ℕ → Said
+blockWrite c w t l = cond (free c w l) (quiet w) (block c w t (writeOn l))
+
+unfoldable pub acquireWrite : Tables → Waits → ℕ → ℕ → Answer
+acquireWrite x w t l = said x (blockWrite (x .«rwlock_readers») w t l)
+
+abbrev pub writeAttempt : Tables → ℕ → ℕ → Outcome → Answer
+writeAttempt x t l Took = completeWrite x t l
+writeAttempt x t l Blocked = acquireWrite x (x .waits) t l
+writeAttempt x t l (Hinted o) = acquireWrite x (write (x .waits) l o) t l
+
+-- wr t l: writer none if it was t; l leaves t's holds; drop edges from l's waiters to t
+unfoldable pub unwritten : Waits → ℕ → ℕ → Waits
+unwritten w t l = unhold (cond (eqb (writerOf w l) t) (write w l 32) w) t l
+
+unfoldable pub releaseWrite : Tables → ℕ → ℕ → Answer
+releaseWrite x t l = silent (withWaits x (loosen (unwritten (x .waits) t l) t l))
+
+-- rd l: no writer, no readers, out of all holds, no waiters; intents and edges stay
+unfoldable pub noReaders : List ℕ → ℕ → List ℕ
+noReaders c l = each (λ d t. setCount d l t 0) c 32
+
+unfoldable pub destroyRwLock : Tables → ℕ → Answer
+destroyRwLock x l = silent (withCounts x (purge (write (x .waits) l 32) l) (noReaders (x .«rwlock_readers») l))

@@ -1,0 +1,289 @@
+// The events of a condition variable.
+ghost use mathlib.Core.Path.{_≡_};
+ghost use mathlib.Core.List.{List};
+ghost use Prim.Native.Nat.{ℕ, _+_, _*_, _<_, _≤_};
+ghost use lib.ListN.{length, getD};
+ghost use Rattle.waits.specs.Tables.{InRange};
+ghost use Rattle.waits.specs.Report.{reportBytes};
+ghost use Rattle.detector.specs.Tables.{noPair};
+ghost use Rattle.detector.specs.Condvar.{Woken, isPair, wake, wakeAll, forget, leave, createCondvar, destroyCondvar, beginWait, notifyOne, notifyAll, endWait};
+ghost use Rattle.detector.specs.State.{pairsOf, tables, blankQueue, Queued, Valid, Does, Wakes};
+ghost use Rattle.detector.specs.Code.{tailOf, emptyQueue};
+use crate::reply::Done;
+use crate::state::CvWait;
+use crate::state::Detector;
+use crate::state::Pair;
+use crate::state::Queue;
+use sets::threads;
+use waits::Waits;
+
+// A walk over a queue: the tables so far, the reports, and the place behind them in the buffer.
+pub struct Awake {
+    pub waits: Waits,
+    pub woken: u32,
+    pub reports: usize,
+    pub used: usize,
+}
+
+fn empty_queue() -> Queue
+    ensures { λ r. ⌜ r ≡ emptyQueue ⌝ }
+{
+    Queue {
+        pairs: [Pair { thread: 0, lock: 0 }; 32],
+        len: 0,
+    }
+}
+
+// One pair treated: woken, and where its lock has an owner the attempt that follows.
+fn wake_one(a: Awake, counts: &[u8; 2048], p: Pair, buf: &mut [u8]) -> Awake
+    requires { ⌜ InRange (a .waits) × (p .thread < 32) × (p .lock < 64) × (a .used + reportBytes ≤ length (now buf)) × (a .reports < 32) ⌝ }
+    ensures { λ r. ⌜ ((b : List ℕ) (s : Woken) → Wakes a b (now (buf .entry)) s → Wakes r b (now (buf .exit)) (wake (now (counts .entry)) s p)) × (r .used ≤ a .used + reportBytes) × (r .reports ≤ a .reports + 1) × InRange (r .waits) ⌝ }
+{
+    let w = a.waits;
+    let from = a.used;
+    let n = a.reports;
+    let t = p.thread as usize;
+    let l = p.lock as usize;
+    let woken = threads::with(a.woken, t);
+    if w.mutex_owners[l] < 32 {
+        let d = w.block_mutex(counts, t, l, buf, from);
+        let waits = d.waits;
+        return Awake {
+            waits,
+            woken,
+            reports: n + d.reports,
+            used: d.used,
+        };
+    }
+    Awake {
+        waits: w,
+        woken,
+        reports: n,
+        used: from,
+    }
+}
+
+fn wake_all(a0: Awake, counts: &[u8; 2048], q: Queue, buf: &mut [u8]) -> Awake
+    requires { ⌜ InRange (a0 .waits) × Queued q × (a0 .used ≡ 0) × (a0 .reports ≡ 0) × (2080 ≤ length (now buf)) ⌝ }
+    ensures { λ r. ⌜ ((s : Woken) → Wakes a0 (now (buf .entry)) (now (buf .entry)) s → Wakes r (now (buf .entry)) (now (buf .exit)) (wakeAll (now (counts .entry)) s (pairsOf q))) ⌝ }
+{
+    let n = q.len as usize;
+    let mut a = a0;
+    let mut i = 0;
+    while i < n {
+        let p = q.pairs[i];
+        a = wake_one(a, counts, p, buf);
+        i += 1;
+    }
+    a
+}
+
+// The queue without its first pair.
+fn popped(q: Queue) -> Queue
+    requires { ⌜ Queued q × (0 < q .len) ⌝ }
+    ensures { λ r. ⌜ (pairsOf r ≡ tailOf (pairsOf q)) × Queued r ⌝ }
+{
+    let mut out = empty_queue();
+    let n = q.len as usize;
+    let mut i = 1;
+    while i < n {
+        out.pairs[i - 1] = q.pairs[i];
+        i += 1;
+    }
+    out.len = (n - 1) as u8;
+    out
+}
+
+// The queue without every pair (t, l).
+fn left_by(q: Queue, t: usize, l: usize) -> Queue
+    requires { ⌜ Queued q ⌝ }
+    ensures { λ r. ⌜ (pairsOf r ≡ leave t l (pairsOf q)) × Queued r ⌝ }
+{
+    let mut out = empty_queue();
+    let n = q.len as usize;
+    let mut k = 0;
+    let mut i = 0;
+    while i < n {
+        let p = q.pairs[i];
+        if is_pair(p, t, l) {
+            i += 1;
+        } else {
+            out.pairs[k] = p;
+            k += 1;
+            i += 1;
+        }
+    }
+    out.len = k as u8;
+    out
+}
+
+fn is_pair(p: Pair, t: usize, l: usize) -> bool
+    ensures { λ r. ⌜ r ≡ isPair t l p ⌝ }
+{
+    if p.thread as usize == t {
+        return p.lock as usize == l;
+    }
+    false
+}
+
+// No thread waits for c.
+fn forgotten(waiting: [CvWait; 32], c: usize) -> [CvWait; 32]
+    ensures { λ r. ⌜ r ≡ forget waiting c ⌝ }
+{
+    let mut out = waiting;
+    let mut t = 0;
+    while t < 32 {
+        let v = waiting[t];
+        if v.condvar as usize == c {
+            out[t] = CvWait {
+                condvar: 16,
+                lock: 0,
+            };
+        }
+        t += 1;
+    }
+    out
+}
+
+impl Detector {
+    // cn
+    pub fn create_condvar(mut self, c: usize) -> Done
+        requires { ⌜ Valid self × (c < 16) ⌝ }
+        ensures { λ r. ⌜ ((b : List ℕ) → Does r b b (createCondvar (tables self) c)) ⌝ }
+    {
+        let mut rest = self.rest;
+        rest.cv_waiters[c] = empty_queue();
+        self.rest = rest;
+        Done {
+            detector: self,
+            reports: 0,
+        }
+    }
+
+    // cd
+    pub fn destroy_condvar(mut self, c: usize) -> Done
+        requires { ⌜ Valid self × (c < 16) ⌝ }
+        ensures { λ r. ⌜ ((b : List ℕ) → Does r b b (destroyCondvar (tables self) c)) ⌝ }
+    {
+        let mut rest = self.rest;
+        rest.cv_waiters[c] = empty_queue();
+        let waiting = rest.thread_wait_cv;
+        let fewer = forgotten(waiting, c);
+        rest.thread_wait_cv = fewer;
+        self.rest = rest;
+        Done {
+            detector: self,
+            reports: 0,
+        }
+    }
+
+    // cb
+    pub fn begin_wait(mut self, t: usize, c: usize, l: usize) -> Done
+        requires { ⌜ Valid self × (t < 32) × (c < 16) × (l < 64) × (getD (self .rest .«cv_waiters») c blankQueue .len < 32) ⌝ }
+        ensures { λ r. ⌜ ((b : List ℕ) → Does r b b (beginWait (tables self) t c l)) ⌝ }
+    {
+        let mut rest = self.rest;
+        let mut q = rest.cv_waiters[c];
+        let n = q.len as usize;
+        q.pairs[n] = Pair {
+            thread: t as u8,
+            lock: l as u8,
+        };
+        q.len = (n + 1) as u8;
+        rest.cv_waiters[c] = q;
+        rest.thread_wait_cv[t] = CvWait {
+            condvar: c as u8,
+            lock: l as u8,
+        };
+        self.rest = rest;
+        Done {
+            detector: self,
+            reports: 0,
+        }
+    }
+
+    // c1
+    pub fn notify_one(mut self, c: usize, buf: &mut [u8]) -> Done
+        requires { ⌜ Valid self × (c < 16) × (2080 ≤ length (now buf)) ⌝ }
+        ensures { λ r. ⌜ Does r (now (buf .entry)) (now (buf .exit)) (notifyOne (tables self) c) ⌝ }
+    {
+        let mut rest = self.rest;
+        let counts = rest.rwlock_readers;
+        let q = rest.cv_waiters[c];
+        let n = q.len;
+        if n == 0 {
+            return Done {
+                detector: self,
+                reports: 0,
+            };
+        }
+        let p = q.pairs[0];
+        rest.cv_waiters[c] = popped(q);
+        let w = self.waits;
+        let start = Awake {
+            waits: w,
+            woken: self.cv_woken,
+            reports: 0,
+            used: 0,
+        };
+        let a = wake_one(start, &counts, p, buf);
+        let waits = a.waits;
+        self.waits = waits;
+        self.cv_woken = a.woken;
+        self.rest = rest;
+        Done {
+            detector: self,
+            reports: a.reports,
+        }
+    }
+
+    // ca
+    pub fn notify_all(mut self, c: usize, buf: &mut [u8]) -> Done
+        requires { ⌜ Valid self × (c < 16) × (2080 ≤ length (now buf)) ⌝ }
+        ensures { λ r. ⌜ Does r (now (buf .entry)) (now (buf .exit)) (notifyAll (tables self) c) ⌝ }
+    {
+        let mut rest = self.rest;
+        let counts = rest.rwlock_readers;
+        let q = rest.cv_waiters[c];
+        rest.cv_waiters[c] = empty_queue();
+        let w = self.waits;
+        let start = Awake {
+            waits: w,
+            woken: self.cv_woken,
+            reports: 0,
+            used: 0,
+        };
+        let a = wake_all(start, &counts, q, buf);
+        let waits = a.waits;
+        self.waits = waits;
+        self.cv_woken = a.woken;
+        self.rest = rest;
+        Done {
+            detector: self,
+            reports: a.reports,
+        }
+    }
+
+    // ce
+    pub fn end_wait(mut self, t: usize, c: usize, l: usize) -> Done
+        requires { ⌜ Valid self × (t < 32) × (c < 16) × (l < 64) ⌝ }
+        ensures { λ r. ⌜ ((b : List ℕ) → Does r b b (endWait (tables self) t c l)) ⌝ }
+    {
+        let mut rest = self.rest;
+        let q = rest.cv_waiters[c];
+        rest.cv_waiters[c] = left_by(q, t, l);
+        rest.thread_wait_cv[t] = CvWait {
+            condvar: 16,
+            lock: 0,
+        };
+        let w0 = self.waits;
+        let waits = w0.clear_wait_intent(t);
+        self.waits = waits;
+        self.cv_woken = threads::without(self.cv_woken, t);
+        self.rest = rest;
+        Done {
+            detector: self,
+            reports: 0,
+        }
+    }
+}

@@ -1,0 +1,21 @@
+// The detector: its state, the 18 events, the refusals, and the entries.
+mod condvar;
+mod event;
+mod mutex;
+mod refusal;
+mod reply;
+mod rwlock;
+mod state;
+mod step;
+mod stuck;
+mod valid;
+
+pub use event::Event;
+pub use reply::Answered;
+pub use reply::Done;
+pub use reply::Reply;
+pub use state::CvWait;
+pub use state::Detector;
+pub use state::Pair;
+pub use state::Queue;
+pub use state::Rest;

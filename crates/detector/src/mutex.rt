@@ -1,0 +1,192 @@
+// The events of a mutex.
+ghost use mathlib.Core.Path.{_≡_};
+ghost use mathlib.Core.List.{List};
+ghost use Prim.Native.Nat.{ℕ, _+_, _<_, _≤_};
+ghost use lib.ListN.{length};
+ghost use Rattle.waits.specs.Tables.{InRange, own};
+ghost use Rattle.waits.specs.Report.{reportBytes};
+ghost use Rattle.waits.specs.Validate.{names};
+ghost use Rattle.waits.specs.Code.{Tells};
+ghost use Rattle.detector.specs.Mutex.{acquired, released, clearNaming, purge, mutexAttempt, completeAcquire, releaseMutex, destroyMutex};
+ghost use Rattle.detector.specs.Refusals.{hintOf};
+ghost use Rattle.detector.specs.State.{tables, Valid, Does};
+ghost use Rattle.detector.specs.Code.{triedMutex, mustLook, lookedMutex};
+use crate::reply::Done;
+use crate::state::Detector;
+use sets::locks;
+use waits::Awaits;
+use waits::Outcome;
+use waits::Slot;
+use waits::Told;
+use waits::Waits;
+
+fn owned(mut w: Waits, l: usize, t: usize) -> Waits
+    requires { ⌜ InRange w × (l < 64) × (t ≤ 32) ⌝ }
+    ensures { λ r. ⌜ (r ≡ own w l t) × InRange r ⌝ }
+{
+    w.mutex_owners[l] = t as u8;
+    w
+}
+
+// The mutex is t's: owner, holds, and t waits for nothing.
+fn taken(mut w: Waits, t: usize, l: usize) -> Waits
+    requires { ⌜ InRange w × (t < 32) × (l < 64) ⌝ }
+    ensures { λ r. ⌜ (r ≡ acquired w t l) × InRange r ⌝ }
+{
+    w.mutex_owners[l] = t as u8;
+    let holds = w.thread_holds[t];
+    w.thread_holds[t] = locks::with(holds, l);
+    w.clear_wait_intent(t)
+}
+
+fn given_up(mut w: Waits, t: usize, l: usize) -> Waits
+    requires { ⌜ InRange w × (t < 32) × (l < 64) ⌝ }
+    ensures { λ r. ⌜ (r ≡ released w t l) × InRange r ⌝ }
+{
+    if w.mutex_owners[l] as usize == t {
+        w.mutex_owners[l] = 32;
+    }
+    let holds = w.thread_holds[t];
+    w.thread_holds[t] = locks::without(holds, l);
+    w
+}
+
+// The tables before anybody's wait is looked at.
+fn tried(w: Waits, t: usize, l: usize, o: Outcome) -> Waits
+    requires { ⌜ InRange w × (t < 32) × (l < 64) × (hintOf o < 32) ⌝ }
+    ensures { λ r. ⌜ (r ≡ triedMutex w t l o) × InRange r ⌝ }
+{
+    match o {
+        Outcome::Took => taken(w, t, l),
+        Outcome::Blocked => w,
+        Outcome::Hinted(h) => owned(w, l, h),
+    }
+}
+
+// A lock that was taken and that nobody awaits needs no look.
+pub fn must_look(w: Waits, l: usize, o: Outcome) -> bool
+    requires { ⌜ l < 64 ⌝ }
+    ensures { λ r. ⌜ r ≡ mustLook w l o ⌝ }
+{
+    match o {
+        Outcome::Took => w.lock_waiters[l] != 0,
+        Outcome::Blocked => true,
+        Outcome::Hinted(_) => true,
+    }
+}
+
+fn looked(w: Waits, counts: &[u8; 2048], t: usize, l: usize, o: Outcome, buf: &mut [u8]) -> Told
+    requires { ⌜ InRange w × (t < 32) × (l < 64) × (reportBytes ≤ length (now buf)) ⌝ }
+    ensures { λ r. ⌜ Tells r (now (buf .entry)) (now (buf .exit)) 0 (lookedMutex (now (counts .entry)) w t l o) ⌝ }
+{
+    match o {
+        Outcome::Took => w.settle(counts, l, buf, 0),
+        Outcome::Blocked => w.block_mutex(counts, t, l, buf, 0),
+        Outcome::Hinted(_) => w.block_mutex(counts, t, l, buf, 0),
+    }
+}
+
+fn awaits(s: Slot, l: usize) -> bool
+    ensures { λ r. ⌜ r ≡ names (s .awaits) l ⌝ }
+{
+    let awaits = s.awaits;
+    let Awaits::For(i) = awaits else {
+        return false;
+    };
+    let lock = i.lock_id as usize;
+    lock == l
+}
+
+// Every thread whose intent names l waits for nothing.
+fn cleared(w0: Waits, l: usize) -> Waits
+    requires { ⌜ InRange w0 ⌝ }
+    ensures { λ r. ⌜ (r ≡ clearNaming w0 l) × InRange r ⌝ }
+{
+    let slots = w0.thread_waits_for;
+    let mut w = w0;
+    let mut t = 0;
+    while t < 32 {
+        let s = slots[t];
+        if awaits(s, l) {
+            w = w.clear_wait_intent(t);
+        }
+        t += 1;
+    }
+    w
+}
+
+// l leaves all holds and loses its waiters.
+pub fn purged(w0: Waits, l: usize) -> Waits
+    requires { ⌜ InRange w0 × (l < 64) ⌝ }
+    ensures { λ r. ⌜ (r ≡ purge w0 l) × InRange r ⌝ }
+{
+    let mut w = w0;
+    let mut t = 0;
+    while t < 32 {
+        let holds = w.thread_holds[t];
+        w.thread_holds[t] = locks::without(holds, l);
+        t += 1;
+    }
+    w.lock_waiters[l] = 0;
+    w
+}
+
+impl Detector {
+    // ma
+    pub fn acquire_slow_with_recheck(self, t: usize, l: usize, o: Outcome, buf: &mut [u8]) -> Done
+        requires { ⌜ Valid self × (t < 32) × (l < 64) × (hintOf o < 32) × (2080 ≤ length (now buf)) ⌝ }
+        ensures { λ r. ⌜ Does r (now (buf .entry)) (now (buf .exit)) (mutexAttempt (tables self) t l o) ⌝ }
+    {
+        let w0 = self.waits;
+        let w = tried(w0, t, l, o);
+        let mut d = w.quiet(0);
+        if must_look(w, l, o) {
+            let counts = self.readers();
+            d = looked(w, &counts, t, l, o, buf);
+        }
+        self.told(d)
+    }
+
+    // mc
+    pub fn complete_acquire(self, t: usize, l: usize, buf: &mut [u8]) -> Done
+        requires { ⌜ Valid self × (t < 32) × (l < 64) × (2080 ≤ length (now buf)) ⌝ }
+        ensures { λ r. ⌜ Does r (now (buf .entry)) (now (buf .exit)) (completeAcquire (tables self) t l) ⌝ }
+    {
+        let w0 = self.waits;
+        let w = taken(w0, t, l);
+        let mut d = w.quiet(0);
+        if w.lock_waiters[l] != 0 {
+            let counts = self.readers();
+            d = w.settle(&counts, l, buf, 0);
+        }
+        self.told(d)
+    }
+
+    // mr
+    pub fn release_mutex(self, t: usize, l: usize) -> Done
+        requires { ⌜ Valid self × (t < 32) × (l < 64) ⌝ }
+        ensures { λ r. ⌜ ((b : List ℕ) → Does r b b (releaseMutex (tables self) t l)) ⌝ }
+    {
+        let w0 = self.waits;
+        let mut w = given_up(w0, t, l);
+        if w.lock_waiters[l] != 0 {
+            let counts = self.readers();
+            let k = w.refresh_waiters_for_lock(&counts, l);
+            let next = k.waits;
+            w = next;
+        }
+        self.with_waits(w, 0)
+    }
+
+    // md
+    pub fn destroy_mutex(self, l: usize) -> Done
+        requires { ⌜ Valid self × (l < 64) ⌝ }
+        ensures { λ r. ⌜ ((b : List ℕ) → Does r b b (destroyMutex (tables self) l)) ⌝ }
+    {
+        let w0 = self.waits;
+        let a = owned(w0, l, 32);
+        let b = cleared(a, l);
+        let w = purged(b, l);
+        self.with_waits(w, 0)
+    }
+}

@@ -1,0 +1,159 @@
+// The refusals of an event: 3 to 6 by its numbers and the buffer, 7 and 8 by what is full; 0 for none.
+ghost use mathlib.Core.Path.{_≡_};
+ghost use Prim.Native.Nat.{_<_};
+ghost use Rattle.detector.specs.Refusals.{hintOf, numbers, numbersOf, outside, Inside, fullQueue, fullCount, fullAttempt, fullTry, full, refusal};
+ghost use Rattle.detector.specs.State.{tables, Valid};
+use crate::event::Event;
+use crate::state::Detector;
+use waits::Outcome;
+use waits::Tried;
+
+fn hint_of(o: Outcome) -> usize
+    ensures { λ r. ⌜ r ≡ hintOf o ⌝ }
+{
+    match o {
+        Outcome::Took => 0,
+        Outcome::Blocked => 0,
+        Outcome::Hinted(h) => h,
+    }
+}
+
+fn outside(t: usize, h: usize, l: usize, c: usize, room: usize) -> u8
+    ensures { λ r. ⌜ r ≡ outside (numbers t h l c) room 0 ⌝ }
+{
+    if 31 < t {
+        return 3;
+    }
+    if 31 < h {
+        return 3;
+    }
+    if 63 < l {
+        return 4;
+    }
+    if 15 < c {
+        return 5;
+    }
+    if room < 2080 {
+        return 6;
+    }
+    0
+}
+
+fn numbered(e: Event, room: usize) -> u8
+    ensures { λ r. ⌜ r ≡ outside (numbersOf e) room 0 ⌝ }
+{
+    match e {
+        Event::MutexAttempt(t, l, o) => {
+            let h = hint_of(o);
+            outside(t, h, l, 0, room)
+        }
+        Event::MutexAcquired(t, l) => outside(t, 0, l, 0, room),
+        Event::MutexReleased(t, l) => outside(t, 0, l, 0, room),
+        Event::MutexExit(l) => outside(0, 0, l, 0, room),
+        Event::RwReadAttempt(t, l, o) => {
+            let h = hint_of(o);
+            outside(t, h, l, 0, room)
+        }
+        Event::RwReadAcquired(t, l) => outside(t, 0, l, 0, room),
+        Event::RwReadTry(t, l, _) => outside(t, 0, l, 0, room),
+        Event::RwReadReleased(t, l) => outside(t, 0, l, 0, room),
+        Event::RwWriteAttempt(t, l, o) => {
+            let h = hint_of(o);
+            outside(t, h, l, 0, room)
+        }
+        Event::RwWriteAcquired(t, l) => outside(t, 0, l, 0, room),
+        Event::RwWriteReleased(t, l) => outside(t, 0, l, 0, room),
+        Event::RwExit(l) => outside(0, 0, l, 0, room),
+        Event::CondvarSpawn(c) => outside(0, 0, 0, c, room),
+        Event::CondvarExit(c) => outside(0, 0, 0, c, room),
+        Event::CondvarWaitBegin(t, c, l) => outside(t, 0, l, c, room),
+        Event::CondvarNotifyOne(c) => outside(0, 0, 0, c, room),
+        Event::CondvarNotifyAll(c) => outside(0, 0, 0, c, room),
+        Event::CondvarWaitEnd(t, c, l) => outside(t, 0, l, c, room),
+    }
+}
+
+impl Detector {
+    fn full_queue(self, c: usize) -> u8
+        requires { ⌜ Valid self × (c < 16) ⌝ }
+        ensures { λ r. ⌜ r ≡ fullQueue (tables self) c ⌝ }
+    {
+        let rest = self.rest;
+        let q = rest.cv_waiters[c];
+        if q.len < 32 {
+            return 0;
+        }
+        7
+    }
+
+    fn full_count(self, t: usize, l: usize) -> u8
+        requires { ⌜ (t < 32) × (l < 64) ⌝ }
+        ensures { λ r. ⌜ r ≡ fullCount (tables self) t l ⌝ }
+    {
+        let rest = self.rest;
+        let at = l * 32 + t;
+        if rest.rwlock_readers[at] == 255 {
+            return 8;
+        }
+        0
+    }
+
+    fn full_attempt(self, t: usize, l: usize, o: Outcome) -> u8
+        requires { ⌜ (t < 32) × (l < 64) ⌝ }
+        ensures { λ r. ⌜ r ≡ fullAttempt (tables self) t l o ⌝ }
+    {
+        match o {
+            Outcome::Took => self.full_count(t, l),
+            Outcome::Blocked => 0,
+            Outcome::Hinted(_) => 0,
+        }
+    }
+
+    fn full_try(self, t: usize, l: usize, o: Tried) -> u8
+        requires { ⌜ (t < 32) × (l < 64) ⌝ }
+        ensures { λ r. ⌜ r ≡ fullTry (tables self) t l o ⌝ }
+    {
+        match o {
+            Tried::Taken => self.full_count(t, l),
+            Tried::Missed => 0,
+        }
+    }
+
+    fn full(self, e: Event, room: usize) -> u8
+        requires { ⌜ Valid self × Inside (numbersOf e) room ⌝ }
+        ensures { λ r. ⌜ r ≡ full (tables self) e ⌝ }
+    {
+        match e {
+            Event::RwReadAttempt(t, l, o) => self.full_attempt(t, l, o),
+            Event::RwReadAcquired(t, l) => self.full_count(t, l),
+            Event::RwReadTry(t, l, o) => self.full_try(t, l, o),
+            Event::CondvarWaitBegin(_, c, _) => self.full_queue(c),
+            Event::MutexAttempt(_, _, _) => 0,
+            Event::MutexAcquired(_, _) => 0,
+            Event::MutexReleased(_, _) => 0,
+            Event::MutexExit(_) => 0,
+            Event::RwReadReleased(_, _) => 0,
+            Event::RwWriteAttempt(_, _, _) => 0,
+            Event::RwWriteAcquired(_, _) => 0,
+            Event::RwWriteReleased(_, _) => 0,
+            Event::RwExit(_) => 0,
+            Event::CondvarSpawn(_) => 0,
+            Event::CondvarExit(_) => 0,
+            Event::CondvarNotifyOne(_) => 0,
+            Event::CondvarNotifyAll(_) => 0,
+            Event::CondvarWaitEnd(_, _, _) => 0,
+        }
+    }
+
+    // The refusal of an event by a valid state, lowest number first.
+    pub fn refusal(self, e: Event, room: usize) -> u8
+        requires { ⌜ Valid self ⌝ }
+        ensures { λ r. ⌜ r ≡ refusal (tables self) room e ⌝ }
+    {
+        let k = numbered(e, room);
+        if 0 < k {
+            return k;
+        }
+        self.full(e, room)
+    }
+}

@@ -1,0 +1,306 @@
+// The events of a readers-writer lock.
+ghost use mathlib.Core.Path.{_≡_};
+ghost use mathlib.Core.List.{List};
+ghost use Prim.Native.Nat.{ℕ, _+_, _*_, _<_, _≤_};
+ghost use lib.ListN.{length, getD};
+ghost use Rattle.waits.specs.Tables.{InRange, write};
+ghost use Rattle.waits.specs.Owners.{countOf};
+ghost use Rattle.waits.specs.Report.{reportBytes};
+ghost use Rattle.waits.specs.Code.{Tells};
+ghost use Rattle.detector.specs.RwLock.{countUp, countDown, noReaders, written, unwritten, loosen, blockWrite, readAttempt, completeRead, readTry, releaseRead, writeAttempt, completeWrite, releaseWrite, destroyRwLock};
+ghost use Rattle.detector.specs.Refusals.{hintOf, fullAttempt, fullTry};
+ghost use Rattle.detector.specs.State.{tables, Valid, Does};
+ghost use Rattle.detector.specs.Code.{blocked, triedRead, triedWrite, lookedWrite};
+use crate::mutex::must_look;
+use crate::mutex::purged;
+use crate::reply::Done;
+use crate::state::Detector;
+use sets::locks;
+use waits::Outcome;
+use waits::Told;
+use waits::Tried;
+use waits::WaitIntent;
+use waits::WaitMode;
+use waits::Waits;
+use waits::reader_mask;
+
+fn written_by(mut w: Waits, l: usize, t: usize) -> Waits
+    requires { ⌜ InRange w × (l < 64) × (t ≤ 32) ⌝ }
+    ensures { λ r. ⌜ (r ≡ write w l t) × InRange r ⌝ }
+{
+    w.rwlock_writer[l] = t as u8;
+    w
+}
+
+// The write lock is t's: writer, holds, and t waits for nothing.
+fn write_taken(mut w: Waits, t: usize, l: usize) -> Waits
+    requires { ⌜ InRange w × (t < 32) × (l < 64) ⌝ }
+    ensures { λ r. ⌜ (r ≡ written w t l) × InRange r ⌝ }
+{
+    w.rwlock_writer[l] = t as u8;
+    let holds = w.thread_holds[t];
+    w.thread_holds[t] = locks::with(holds, l);
+    w.clear_wait_intent(t)
+}
+
+fn write_given_up(mut w: Waits, t: usize, l: usize) -> Waits
+    requires { ⌜ InRange w × (t < 32) × (l < 64) ⌝ }
+    ensures { λ r. ⌜ (r ≡ unwritten w t l) × InRange r ⌝ }
+{
+    if w.rwlock_writer[l] as usize == t {
+        w.rwlock_writer[l] = 32;
+    }
+    let holds = w.thread_holds[t];
+    w.thread_holds[t] = locks::without(holds, l);
+    w
+}
+
+fn write_tried(w: Waits, t: usize, l: usize, o: Outcome) -> Waits
+    requires { ⌜ InRange w × (t < 32) × (l < 64) × (hintOf o < 32) ⌝ }
+    ensures { λ r. ⌜ (r ≡ triedWrite w t l o) × InRange r ⌝ }
+{
+    match o {
+        Outcome::Took => write_taken(w, t, l),
+        Outcome::Blocked => w,
+        Outcome::Hinted(h) => written_by(w, l, h),
+    }
+}
+
+fn read_tried(w: Waits, t: usize, l: usize, o: Outcome) -> Waits
+    requires { ⌜ InRange w × (t < 32) × (l < 64) × (hintOf o < 32) ⌝ }
+    ensures { λ r. ⌜ (r ≡ triedRead w t l o) × InRange r ⌝ }
+{
+    match o {
+        Outcome::Took => w.clear_wait_intent(t),
+        Outcome::Blocked => w,
+        Outcome::Hinted(h) => written_by(w, l, h),
+    }
+}
+
+fn was_blocked(o: Outcome) -> bool
+    ensures { λ r. ⌜ r ≡ blocked o ⌝ }
+{
+    match o {
+        Outcome::Took => false,
+        Outcome::Blocked => true,
+        Outcome::Hinted(_) => true,
+    }
+}
+
+// A free lock blocks nobody.
+fn write_blocked(w: Waits, counts: &[u8; 2048], t: usize, l: usize, buf: &mut [u8]) -> Told
+    requires { ⌜ InRange w × (t < 32) × (l < 64) × (reportBytes ≤ length (now buf)) ⌝ }
+    ensures { λ r. ⌜ Tells r (now (buf .entry)) (now (buf .exit)) 0 (blockWrite (now (counts .entry)) w t l) ⌝ }
+{
+    if reader_mask(counts, l) == 0 {
+        if w.rwlock_writer[l] == 32 {
+            return w.quiet(0);
+        }
+    }
+    let i = WaitIntent {
+        lock_id: l as u8,
+        mode: WaitMode::RwWrite,
+    };
+    w.block(counts, t, i, buf, 0)
+}
+
+fn write_looked(
+    w: Waits,
+    counts: &[u8; 2048],
+    t: usize,
+    l: usize,
+    o: Outcome,
+    buf: &mut [u8],
+) -> Told
+    requires { ⌜ InRange w × (t < 32) × (l < 64) × (reportBytes ≤ length (now buf)) ⌝ }
+    ensures { λ r. ⌜ Tells r (now (buf .entry)) (now (buf .exit)) 0 (lookedWrite (now (counts .entry)) w t l o) ⌝ }
+{
+    match o {
+        Outcome::Took => w.settle(counts, l, buf, 0),
+        Outcome::Blocked => write_blocked(w, counts, t, l, buf),
+        Outcome::Hinted(_) => write_blocked(w, counts, t, l, buf),
+    }
+}
+
+// The edges from l's waiters to t go.
+fn loosened(mut w: Waits, t: usize, l: usize) -> Waits
+    requires { ⌜ InRange w × (t < 32) × (l < 64) ⌝ }
+    ensures { λ r. ⌜ (r ≡ loosen w t l) × InRange r ⌝ }
+{
+    let waiters = w.lock_waiters[l];
+    if waiters != 0 {
+        let g = w.wait_for_graph;
+        let next = g.remove_edges_to(waiters, t);
+        w.wait_for_graph = next;
+    }
+    w
+}
+
+fn counted_up(counts: [u8; 2048], t: usize, l: usize) -> [u8; 2048]
+    requires { ⌜ (t < 32) × (l < 64) × (countOf counts l t ≡ 255 → ⊥) ⌝ }
+    ensures { λ r. ⌜ r ≡ countUp counts l t ⌝ }
+{
+    let mut r = counts;
+    let at = l * 32 + t;
+    let n = r[at];
+    r[at] = n + 1;
+    r
+}
+
+fn counted_down(counts: [u8; 2048], t: usize, l: usize) -> [u8; 2048]
+    requires { ⌜ (t < 32) × (l < 64) ⌝ }
+    ensures { λ r. ⌜ r ≡ countDown counts l t ⌝ }
+{
+    let mut r = counts;
+    let at = l * 32 + t;
+    let n = r[at];
+    if 0 < n {
+        r[at] = n - 1;
+    }
+    r
+}
+
+fn unread(counts: [u8; 2048], l: usize) -> [u8; 2048]
+    requires { ⌜ l < 64 ⌝ }
+    ensures { λ r. ⌜ r ≡ noReaders counts l ⌝ }
+{
+    let mut r = counts;
+    let base = l * 32;
+    let mut t = 0;
+    while t < 32 {
+        r[base + t] = 0;
+        t += 1;
+    }
+    r
+}
+
+impl Detector {
+    // ra
+    pub fn acquire_read_slow_with_recheck(
+        self,
+        t: usize,
+        l: usize,
+        o: Outcome,
+        buf: &mut [u8],
+    ) -> Done
+        requires { ⌜ Valid self × (t < 32) × (l < 64) × (hintOf o < 32) × (fullAttempt (tables self) t l o ≡ 0) × (2080 ≤ length (now buf)) ⌝ }
+        ensures { λ r. ⌜ Does r (now (buf .entry)) (now (buf .exit)) (readAttempt (tables self) t l o) ⌝ }
+    {
+        let w0 = self.waits;
+        let w = read_tried(w0, t, l, o);
+        let counts = self.readers();
+        if was_blocked(o) {
+            let i = WaitIntent {
+                lock_id: l as u8,
+                mode: WaitMode::RwRead,
+            };
+            let d = w.block(&counts, t, i, buf, 0);
+            return self.told(d);
+        }
+        let more = counted_up(counts, t, l);
+        self.with_counts(w, more)
+    }
+
+    // rc
+    pub fn complete_read(self, t: usize, l: usize) -> Done
+        requires { ⌜ Valid self × (t < 32) × (l < 64) × (countOf (self .rest .«rwlock_readers») l t ≡ 255 → ⊥) ⌝ }
+        ensures { λ r. ⌜ ((b : List ℕ) → Does r b b (completeRead (tables self) t l)) ⌝ }
+    {
+        let w0 = self.waits;
+        let w = w0.clear_wait_intent(t);
+        let counts = self.readers();
+        let more = counted_up(counts, t, l);
+        self.with_counts(w, more)
+    }
+
+    // rt
+    pub fn try_read_nonblocking(self, t: usize, l: usize, o: Tried) -> Done
+        requires { ⌜ Valid self × (t < 32) × (l < 64) × (fullTry (tables self) t l o ≡ 0) ⌝ }
+        ensures { λ r. ⌜ ((b : List ℕ) → Does r b b (readTry (tables self) t l o)) ⌝ }
+    {
+        let w0 = self.waits;
+        let Tried::Taken = o else {
+            return self.with_waits(w0, 0);
+        };
+        let counts = self.readers();
+        let more = counted_up(counts, t, l);
+        let k = w0.refresh_waiters_for_lock(&more, l);
+        let w = k.waits;
+        self.with_counts(w, more)
+    }
+
+    // rr
+    pub fn release_read(self, t: usize, l: usize) -> Done
+        requires { ⌜ Valid self × (t < 32) × (l < 64) ⌝ }
+        ensures { λ r. ⌜ ((b : List ℕ) → Does r b b (releaseRead (tables self) t l)) ⌝ }
+    {
+        let counts = self.readers();
+        let fewer = counted_down(counts, t, l);
+        let mut w = self.waits;
+        let at = l * 32 + t;
+        if fewer[at] == 0 {
+            w = loosened(w, t, l);
+        }
+        self.with_counts(w, fewer)
+    }
+
+    // wa
+    pub fn acquire_write_slow_with_recheck(
+        self,
+        t: usize,
+        l: usize,
+        o: Outcome,
+        buf: &mut [u8],
+    ) -> Done
+        requires { ⌜ Valid self × (t < 32) × (l < 64) × (hintOf o < 32) × (2080 ≤ length (now buf)) ⌝ }
+        ensures { λ r. ⌜ Does r (now (buf .entry)) (now (buf .exit)) (writeAttempt (tables self) t l o) ⌝ }
+    {
+        let w0 = self.waits;
+        let w = write_tried(w0, t, l, o);
+        let mut d = w.quiet(0);
+        if must_look(w, l, o) {
+            let counts = self.readers();
+            d = write_looked(w, &counts, t, l, o, buf);
+        }
+        self.told(d)
+    }
+
+    // wc
+    pub fn complete_write(self, t: usize, l: usize, buf: &mut [u8]) -> Done
+        requires { ⌜ Valid self × (t < 32) × (l < 64) × (2080 ≤ length (now buf)) ⌝ }
+        ensures { λ r. ⌜ Does r (now (buf .entry)) (now (buf .exit)) (completeWrite (tables self) t l) ⌝ }
+    {
+        let w0 = self.waits;
+        let w = write_taken(w0, t, l);
+        let mut d = w.quiet(0);
+        if w.lock_waiters[l] != 0 {
+            let counts = self.readers();
+            d = w.settle(&counts, l, buf, 0);
+        }
+        self.told(d)
+    }
+
+    // wr
+    pub fn release_write(self, t: usize, l: usize) -> Done
+        requires { ⌜ Valid self × (t < 32) × (l < 64) ⌝ }
+        ensures { λ r. ⌜ ((b : List ℕ) → Does r b b (releaseWrite (tables self) t l)) ⌝ }
+    {
+        let w0 = self.waits;
+        let a = write_given_up(w0, t, l);
+        let w = loosened(a, t, l);
+        self.with_waits(w, 0)
+    }
+
+    // rd
+    pub fn destroy_rwlock(self, l: usize) -> Done
+        requires { ⌜ Valid self × (l < 64) ⌝ }
+        ensures { λ r. ⌜ ((b : List ℕ) → Does r b b (destroyRwLock (tables self) l)) ⌝ }
+    {
+        let counts = self.readers();
+        let none = unread(counts, l);
+        let w0 = self.waits;
+        let a = written_by(w0, l, 32);
+        let w = purged(a, l);
+        self.with_counts(w, none)
+    }
+}

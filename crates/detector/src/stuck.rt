@@ -1,0 +1,142 @@
+// Stuck threads and stored edges, for the end of a replay.
+ghost use mathlib.Core.Path.{_≡_};
+ghost use Prim.Native.Nat.{_<_};
+ghost use lib.ListN.{length};
+ghost use Rattle.sets.specs.Sets.{upward};
+ghost use Rattle.sets.specs.Below.{those};
+ghost use Rattle.graph.specs.Search.{findPath};
+ghost use Rattle.waits.specs.Tables.{InRange, intentOf};
+ghost use Rattle.waits.specs.Owners.{blocking};
+ghost use Rattle.detector.specs.State.{tables, Valid};
+ghost use Rattle.detector.specs.Stuck.{maskOf, trueWaits, found, anyBack, stuckIn, stuckCount, edgeCount};
+use crate::state::Detector;
+use graph::Answer;
+use graph::find_path;
+use sets::threads;
+use waits::Awaits;
+use waits::Waits;
+
+// The threads for which t truly waits.
+fn awaited_by(w: Waits, counts: &[u8; 2048], t: usize) -> u32
+    requires { ⌜ InRange w × (t < 32) ⌝ }
+    ensures { λ r. ⌜ r ≡ maskOf (blocking (now (counts .entry)) w (intentOf w t)) ⌝ }
+{
+    let slot = w.thread_waits_for[t];
+    let awaits = slot.awaits;
+    let Awaits::For(i) = awaits else {
+        return 0;
+    };
+    let o = w.incompatible_owners(counts, i);
+    let readers = o.readers;
+    let last = o.last;
+    if last < 32 {
+        return threads::with(readers, last);
+    }
+    readers
+}
+
+fn rows_of(w: Waits, counts: &[u8; 2048]) -> [u32; 32]
+    requires { ⌜ InRange w ⌝ }
+    ensures { λ r. ⌜ r ≡ trueWaits (now (counts .entry)) w ⌝ }
+{
+    let mut rows = [0u32; 32];
+    let mut t = 0;
+    while t < 32 {
+        rows[t] = awaited_by(w, counts, t);
+        t += 1;
+    }
+    rows
+}
+
+// Does a way lead from u to t?
+fn leads(rows: [u32; 32], u: usize, t: usize) -> bool
+    requires { ⌜ u < 32 ⌝ }
+    ensures { λ r. ⌜ r ≡ found (findPath rows u t) ⌝ }
+{
+    let s = find_path(rows, u, t);
+    let answer = s.answer;
+    let Answer::Found = answer else {
+        return false;
+    };
+    true
+}
+
+// Does a way lead to t from a thread of the set?
+fn any_leads(rows: [u32; 32], set: u32, t: usize) -> bool
+    ensures { λ r. ⌜ r ≡ anyBack rows t (upward 32 set) ⌝ }
+{
+    let mut left = set;
+    while left != 0 {
+        let u = threads::lowest(left);
+        if leads(rows, u, t) {
+            return true;
+        }
+        left = threads::rest(left);
+    }
+    false
+}
+
+fn is_stuck(rows: [u32; 32], t: usize) -> bool
+    requires { ⌜ t < 32 ⌝ }
+    ensures { λ r. ⌜ r ≡ stuckIn rows t ⌝ }
+{
+    any_leads(rows, rows[t], t)
+}
+
+fn count_stuck(rows: [u32; 32]) -> usize
+    ensures { λ r. ⌜ r ≡ length (those (stuckIn rows) 32) ⌝ }
+{
+    let mut n: usize = 0;
+    let mut t = 0;
+    while t < 32 {
+        if is_stuck(rows, t) {
+            n += 1;
+        }
+        t += 1;
+    }
+    n
+}
+
+fn count_edges(rows: [u32; 32]) -> usize
+    ensures { λ r. ⌜ r ≡ edgeCount rows ⌝ }
+{
+    let mut n: usize = 0;
+    let mut t = 0;
+    while t < 32 {
+        n += u32::count_ones(rows[t]) as usize;
+        t += 1;
+    }
+    n
+}
+
+impl Detector {
+    // For each thread, those for which it truly waits.
+    pub fn true_waits(self) -> [u32; 32]
+        requires { ⌜ Valid self ⌝ }
+        ensures { λ r. ⌜ r ≡ trueWaits (self .rest .«rwlock_readers») (self .waits) ⌝ }
+    {
+        let w = self.waits;
+        let rest = self.rest;
+        let counts = rest.rwlock_readers;
+        rows_of(w, &counts)
+    }
+
+    // How many threads are stuck.
+    pub fn stuck(self) -> usize
+        requires { ⌜ Valid self ⌝ }
+        ensures { λ r. ⌜ r ≡ stuckCount (tables self) ⌝ }
+    {
+        let rows = self.true_waits();
+        count_stuck(rows)
+    }
+
+    // How many edges are stored.
+    pub fn edges_stored(self) -> usize
+        ensures { λ r. ⌜ r ≡ edgeCount (self .waits .«wait_for_graph» .edges) ⌝ }
+    {
+        let w = self.waits;
+        let g = w.wait_for_graph;
+        let edges = g.edges;
+        count_edges(edges)
+    }
+}
