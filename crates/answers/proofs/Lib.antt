@@ -1,0 +1,6 @@
+pub mod Puts
+pub mod Digits
+pub mod Items
+pub mod Bounds
+pub mod Laid
+mod Examples

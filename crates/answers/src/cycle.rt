@@ -1,0 +1,72 @@
+// A `cycle` line for each report in the report buffer.
+use crate::number::put_field;
+use crate::number::put_number;
+use crate::number::wide;
+use crate::put::put_byte;
+use crate::put::put_bytes;
+ghost use mathlib.Core.Path.{_≡_};
+ghost use Prim.Native.Nat.{_+_, _*_, _≤_};
+ghost use lib.ListN.{length, drop, getD};
+ghost use Rattle.answers.specs.Text.{withTab, Room, Put};
+ghost use Rattle.answers.specs.Reports.{entrySize, entryIn, entriesIn, reportIn, reportsIn};
+ghost use Rattle.answers.specs.Answers.{itemText, itemsText, cycleText, cyclesText, Held};
+
+// The bytes of an entry: a thread, and the lock that it awaits.
+const ENTRY: usize = 2;
+
+// A tab and the item of the entry at from.
+fn put_item(out: &mut [u8], at: usize, buf: &[u8], from: usize) -> usize
+    requires { ⌜ from + entrySize ≤ length (now buf) ⌝ }
+    requires { ⌜ Room (now out) at (withTab (itemText (entryIn (drop from (now buf))))) ⌝ }
+    ensures { λ r. ⌜ Put (now (out .entry)) at (withTab (itemText (entryIn (drop from (now (buf .entry)))))) (now (out .exit)) r ⌝ }
+{
+    let a = put_field(out, at, wide(buf[from]));
+    let b = put_byte(out, a, b':');
+    put_number(out, b, wide(buf[from + 1]))
+}
+
+// The items of n entries, the first of them at from.
+fn put_items(out: &mut [u8], at: usize, buf: &[u8], from: usize, n: usize) -> usize
+    requires { ⌜ from + entrySize * n ≤ length (now buf) ⌝ }
+    requires { ⌜ Room (now out) at (itemsText (entriesIn n (drop from (now buf)))) ⌝ }
+    ensures { λ r. ⌜ Put (now (out .entry)) at (itemsText (entriesIn n (drop from (now (buf .entry))))) (now (out .exit)) r ⌝ }
+{
+    let mut left = n;
+    let mut to = at;
+    let mut p = from;
+    while left > 0 {
+        to = put_item(out, to, buf, p);
+        p = p + ENTRY;
+        left = left - 1;
+    }
+    to
+}
+
+// The line of the report at from, which has n entries.
+fn put_cycle(out: &mut [u8], at: usize, buf: &[u8], from: usize, n: usize) -> usize
+    requires { ⌜ (n ≡ getD (now buf) from 0) × (from + 1 + entrySize * n ≤ length (now buf)) ⌝ }
+    requires { ⌜ Room (now out) at (cycleText (reportIn (drop from (now buf)))) ⌝ }
+    ensures { λ r. ⌜ Put (now (out .entry)) at (cycleText (reportIn (drop from (now (buf .entry))))) (now (out .exit)) r ⌝ }
+{
+    let a = put_bytes(out, at, b"cycle");
+    let b = put_items(out, a, buf, from + 1, n);
+    put_byte(out, b, b'\n')
+}
+
+// A line for each of the reports that stand from the buffer's first byte on.
+pub(crate) fn put_cycles(out: &mut [u8], at: usize, buf: &[u8], reports: usize) -> usize
+    requires { ⌜ Held reports (now buf) ⌝ }
+    requires { ⌜ Room (now out) at (cyclesText (reportsIn reports (now buf))) ⌝ }
+    ensures { λ r. ⌜ Put (now (out .entry)) at (cyclesText (reportsIn reports (now (buf .entry)))) (now (out .exit)) r ⌝ }
+{
+    let mut left = reports;
+    let mut to = at;
+    let mut p = 0;
+    while left > 0 {
+        let n = wide(buf[p]);
+        to = put_cycle(out, to, buf, p, n);
+        p = p + 1 + ENTRY * n;
+        left = left - 1;
+    }
+    to
+}

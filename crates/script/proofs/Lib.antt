@@ -1,0 +1,7 @@
+pub mod Cut
+pub mod Digits
+pub mod Table
+pub mod Steps
+pub mod Printing
+pub mod ReadBack
+mod Examples

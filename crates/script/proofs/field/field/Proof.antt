@@ -1,0 +1,34 @@
+use mathlib.Core.List.{List}
+use borrow.Author.Needs.{needs}
+use mathlib.Core.Path.{_≡_, ap, _∙_}
+use Prim.Native.Nat.{ℕ, _-_}
+use native.Mathlib.Omega.{arith}
+use lib.ListN.{length, take, drop}
+use Rattle.script.proofs.Cut.{take-upTo}
+use Rattle.script.specs.Fields.{tab, upTo, fieldAt}
+use Rattle.script.proofs.field.field.Statement.{statement}
+use Rattle.script.proofs.field.field.Tie as tie
+
+field-end-requires : tie.Need-field-end-requires
+field-end-requires c κs = search needs
+
+sub-result : tie.Need-sub-result
+sub-result c = search needs
+
+part-result-start : tie.Need-part-result-start
+part-result-start c = search needs
+
+part-result-end : tie.Need-part-result-end
+part-result-end c = search needs
+
+returns : tie.Need-returns
+unfolding fieldAt
+returns c =
+    let l : List ℕ = c .before .before .before .args .line .now in
+    let a : ℕ = c .before .before .before .args .a in
+    let h : c .before .field-end .result - a ≡ length (upTo tab (drop a l)) = omega arith in
+    ap (λ (k : ℕ). take k (drop a l)) h ∙ take-upTo tab (drop a l)
+
+pub field-spec : {M : Type 1} → statement M
+field-spec =
+    tie.close (tie.spec field-end-requires sub-result part-result-start part-result-end returns)

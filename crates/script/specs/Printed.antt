@@ -1,0 +1,76 @@
+-- An event as a line of the script.
+use Prim.Native.Nat.{ℕ, _<_}
+use mathlib.Core.List.{List, [], _∷_}
+use lib.ListN.{getD}
+use Rattle.answers.specs.Text.{text, decimal, joined}
+use Rattle.script.specs.Words.{Word, ma, mc, mr, md, ra, rc, rt, rr, wa, wc, wr, rd, cn, cd, cb, c1, ca, ce, spelled}
+use Rattle.waits.specs.declared.outcome.Outcome.{Outcome}
+use Rattle.waits.specs.declared.outcome.Outcome.the-variants as outcome
+use Rattle.waits.specs.declared.outcome.Tried.{Tried}
+use Rattle.waits.specs.declared.outcome.Tried.the-variants as tried
+use Rattle.detector.specs.declared.event.Event.{Event}
+use Rattle.detector.specs.declared.event.Event.the-variants as event
+
+-- a word and what stands behind it
+pub data Parts : Type 0 where
+  one : Word → ℕ → Parts
+  two : Word → ℕ → ℕ → Parts
+  three : Word → ℕ → ℕ → Outcome → Parts
+
+abbrev pub asOutcome : Tried → Outcome
+asOutcome tried.Taken = outcome.Took
+asOutcome tried.Missed = outcome.Blocked
+
+abbrev pub partsOf : Event → Parts
+partsOf (event.MutexAttempt t l o) = three ma t l o
+partsOf (event.MutexAcquired t l) = two mc t l
+partsOf (event.MutexReleased t l) = two mr t l
+partsOf (event.MutexExit l) = one md l
+partsOf (event.RwReadAttempt t l o) = three ra t l o
+partsOf (event.RwReadAcquired t l) = two rc t l
+partsOf (event.RwReadTry t l o) = three rt t l (asOutcome o)
+partsOf (event.RwReadReleased t l) = two rr t l
+partsOf (event.RwWriteAttempt t l o) = three wa t l o
+partsOf (event.RwWriteAcquired t l) = two wc t l
+partsOf (event.RwWriteReleased t l) = two wr t l
+partsOf (event.RwExit l) = one rd l
+partsOf (event.CondvarSpawn c) = one cn c
+partsOf (event.CondvarExit c) = one cd c
+partsOf (event.CondvarWaitBegin t c l) = three cb t c (outcome.Hinted l)
+partsOf (event.CondvarNotifyOne c) = one c1 c
+partsOf (event.CondvarNotifyAll c) = one ca c
+partsOf (event.CondvarWaitEnd t c l) = three ce t c (outcome.Hinted l)
+
+abbrev pub outcomeText : Outcome → List ℕ
+outcomeText outcome.Took = text "took"
+outcomeText outcome.Blocked = text "-"
+outcomeText (outcome.Hinted h) = decimal h
+
+unfoldable pub partsText : Parts → List ℕ
+partsText (one w a) = joined (spelled w ∷ decimal a ∷ [])
+partsText (two w a b) = joined (spelled w ∷ decimal a ∷ decimal b ∷ [])
+partsText (three w a b o) = joined (spelled w ∷ decimal a ∷ decimal b ∷ outcomeText o ∷ [])
+
+unfoldable pub eventText : Event → List ℕ
+eventText e = partsText (partsOf e)
+
+-- the numbers of an event, and that each is below m
+abbrev pub hintsOf : Outcome → List ℕ
+hintsOf outcome.Took = []
+hintsOf outcome.Blocked = []
+hintsOf (outcome.Hinted h) = h ∷ []
+
+abbrev pub numbersOf : Parts → List ℕ
+numbersOf (one w a) = a ∷ []
+numbersOf (two w a b) = a ∷ b ∷ []
+numbersOf (three w a b o) = a ∷ b ∷ hintsOf o
+
+abbrev pub Below : ℕ → List ℕ → Type 0
+Below m ns = (i : ℕ) → getD ns i 0 < m
+
+abbrev pub Within : ℕ → Event → Type 0
+Within m e = Below m (numbersOf (partsOf e))
+
+-- room for an event with any numbers of 64 bits
+abbrev pub eventRoom : ℕ
+eventRoom = 65
