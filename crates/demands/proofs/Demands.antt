@@ -1,0 +1,245 @@
+-- The demands carried to what `step` returns, by its promise alone.
+use mathlib.Core.Path.{_≡_, refl, sym, ap, ap₂, _∙_, subst, subst₂}
+use mathlib.Core.List.{List, [], _∷_, _++_}
+use mathlib.Core.Bool.{Bool, true, false, cond}
+use Prim.Native.Nat.{ℕ, zero, suc, _<_}
+use native.Mathlib.Omega.{arith}
+use native.Mathlib.Decide.{ℕ-discrete}
+use lib.Dec.{eqb, ltb}
+use lib.ListN.{length}
+use borrow.Author.Tests.{ne-eqb}
+use Rattle.waits.specs.Report.{written}
+use Rattle.waits.specs.Owners.{countOf}
+use Rattle.waits.specs.Code.{laid}
+use Rattle.waits.specs.declared.outcome.Outcome.{Outcome}
+use Rattle.waits.specs.declared.outcome.Outcome.the-variants.{Took, Blocked, Hinted}
+use Rattle.waits.specs.declared.outcome.Tried.the-variants.{Taken, Missed}
+use Rattle.waits.proofs.Telling.{laid-none}
+use Rattle.detector.specs.Tables.{Tables, Answer, empty, queueOf}
+use Rattle.detector.specs.Refusals.{Numbers, numbersOf, outside, full, refusal}
+use Rattle.detector.specs.State.{tables, Valid, refusalOf, refusedBy, reportsIn, Steps}
+use Rattle.detector.specs.declared.event.Event.{Event}
+use Rattle.detector.specs.declared.event.Event.the-variants.{MutexAttempt, MutexAcquired, MutexReleased, MutexExit, RwReadReleased, RwWriteAttempt, RwWriteAcquired, RwWriteReleased, RwExit, CondvarSpawn, CondvarExit, CondvarNotifyOne, CondvarNotifyAll, CondvarWaitEnd, RwReadAttempt, RwReadAcquired, RwReadTry, CondvarWaitBegin}
+use Rattle.detector.specs.declared.state.Detector.{Detector}
+use Rattle.detector.specs.declared.reply.Answered.{Answered}
+use Rattle.detector.specs.declared.reply.Reply.{Reply}
+use Rattle.detector.specs.declared.reply.Reply.the-variants.{Refused}
+use Rattle.demands.specs.Reached.{answer, room, after, Reached}
+use Rattle.demands.specs.Feeds.{Call, Back, Feeds, none, next, Starts}
+use Rattle.demands.specs.Demand1.{AllAnswered, EachAnswered, RefusedByNumber}
+use Rattle.demands.specs.Demand2.{replied, onward, backs, ends, NoTwo, FedAsRuled, Coincide}
+use Rattle.demands.specs.Demand3.{ReportsTrue, Converse, MutexConverse, RwConverse, Attempted, Called, CalledHalf}
+use Rattle.demands.proofs.Events.{accepted-full, served, unserved}
+use Rattle.demands.proofs.Invariants.{first-half}
+use Rattle.demands.proofs.Exact.{second-half}
+use Rattle.detector.proofs.Validity.{valid-tested}
+
+-- ---- DEMAND 1
+
+pub all-answered : AllAnswered
+all-answered step d [] = ([], d, none)
+all-answered step d (k ∷ ks) =
+    let s = step d (k .event) (k .lent) in
+    let f = all-answered step (s .0 .detector) ks in
+    (record { reply = s .0 .reply; buffer = s .1 } ∷ f .0, f .1, next (s .2) (f .2))
+
+pub each-answered : EachAnswered
+each-answered d e ks bs f = go f
+  where
+    go : {d : Detector} {ks : List Call} {bs : List Back} {e : Detector} → Feeds d ks bs e → length bs ≡ length ks
+    go none = refl
+    go (next s f) = ap suc (go f)
+
+pub refused-by-number : RefusedByNumber
+refused-by-number d ev r b e s = record { number = number (refusalOf d (length b) ev) refl; same = λ h. same (rw (number (refusalOf d (length b) ev) refl) at h) }
+  where
+    number : (n : ℕ) → refusalOf d (length b) ev ≡ n → refusedBy (r .reply) ≡ refusalOf d (length b) ev
+    number zero q = ap refusedBy (s .served q .0) ∙ sym q
+    number (suc n) q = ap (λ (a : Answered). refusedBy (a .reply)) (s .refused (omega arith) .0)
+
+    same : 0 < refusalOf d (length b) ev → (r .detector ≡ d) × (e ≡ b)
+    same h = let p = s .refused h in (ap (λ (a : Answered). a .detector) (p .0), p .1)
+
+-- ---- the rules' run
+
+after-snoc : (es : List Event) (e : Event) (x : Tables) → after x (es ++ (e ∷ [])) ≡ answer (after x es) room e .tables
+unfolding after
+after-snoc [] e x = refl
+after-snoc (f ∷ es) e x = after-snoc es e (answer x room f .tables)
+
+-- one event more, with any buffer
+reached-next : (x : Tables) (n : ℕ) (e : Event) → Reached x → Reached (answer x n e .tables)
+reached-next x n e r = go (ℕ-discrete (refusal x n e) 0)
+  where
+    go : Dec (refusal x n e ≡ 0) → Reached (answer x n e .tables)
+    go (yes h) =
+        record {
+          events = r .events ++ (e ∷ []);
+          ends = after-snoc (r .events) e empty ∙ ap (λ (y : Tables). answer y room e .tables) (r .ends)
+              ∙ ap (λ (a : Answer). a .tables) (served x room e (accepted-full x n e h) ∙ sym (served x n e h));
+        }
+    go (no h) = record { events = r .events; ends = r .ends ∙ ap (λ (a : Answer). a .tables) (sym (unserved x n e h)) }
+
+reached-ends : (ks : List Call) (x : Tables) → Reached x → Reached (ends x ks)
+unfolding ends
+reached-ends [] x r = r
+reached-ends (k ∷ ks) x r = reached-ends ks (onward x k) (reached-next x (length (k .lent)) (k .event) r)
+
+-- ---- no rule gives number 2
+
+if-two : (b : Bool) (n m : ℕ) → (n ≡ 2 → ⊥) → (m ≡ 2 → ⊥) → cond b n m ≡ 2 → ⊥
+if-two true n m p q e = p e
+if-two false n m p q e = q e
+
+full-two : (x : Tables) (e : Event) → full x e ≡ 2 → ⊥
+full-two x (RwReadAttempt t l Took) e = if-two (eqb (countOf (x .«rwlock_readers») l t) 255) 8 0 (λ z. omega arith) (λ z. omega arith) e
+full-two x (RwReadAttempt t l Blocked) e = omega arith
+full-two x (RwReadAttempt t l (Hinted o)) e = omega arith
+full-two x (RwReadAcquired t l) e = if-two (eqb (countOf (x .«rwlock_readers») l t) 255) 8 0 (λ z. omega arith) (λ z. omega arith) e
+full-two x (RwReadTry t l Taken) e = if-two (eqb (countOf (x .«rwlock_readers») l t) 255) 8 0 (λ z. omega arith) (λ z. omega arith) e
+full-two x (RwReadTry t l Missed) e = omega arith
+full-two x (CondvarWaitBegin t c l) e = if-two (ltb (length (queueOf x c)) 32) 0 7 (λ z. omega arith) (λ z. omega arith) e
+full-two x (MutexAttempt t l o) e = omega arith
+full-two x (MutexAcquired t l) e = omega arith
+full-two x (MutexReleased t l) e = omega arith
+full-two x (MutexExit l) e = omega arith
+full-two x (RwReadReleased t l) e = omega arith
+full-two x (RwWriteAttempt t l o) e = omega arith
+full-two x (RwWriteAcquired t l) e = omega arith
+full-two x (RwWriteReleased t l) e = omega arith
+full-two x (RwExit l) e = omega arith
+full-two x (CondvarSpawn c) e = omega arith
+full-two x (CondvarExit c) e = omega arith
+full-two x (CondvarNotifyOne c) e = omega arith
+full-two x (CondvarNotifyAll c) e = omega arith
+full-two x (CondvarWaitEnd t c l) e = omega arith
+
+outside-two : (n : Numbers) (m last : ℕ) → (last ≡ 2 → ⊥) → outside n m last ≡ 2 → ⊥
+unfolding outside
+outside-two n m last h =
+    if-two (ltb 31 (n .thread)) 3 _ (λ z. omega arith) (if-two (ltb 31 (n .hint)) 3 _ (λ z. omega arith) (if-two (ltb 63 (n .lock)) 4 _ (λ z. omega arith)
+    (if-two (ltb 15 (n .condvar)) 5 _ (λ z. omega arith) (if-two (ltb m 2080) 6 last (λ z. omega arith) h))))
+
+refusal-two : (x : Tables) (n : ℕ) (e : Event) → refusal x n e ≡ 2 → ⊥
+unfolding refusal
+refusal-two x n e = outside-two (numbersOf e) n (full x e) (full-two x e)
+
+refused-replied : (x : Tables) (n : ℕ) (e : Event) → refusedBy (replied x n e) ≡ refusal x n e
+refused-replied x n e = go (ℕ-discrete (refusal x n e) 0)
+  where
+    go : Dec (refusal x n e ≡ 0) → refusedBy (replied x n e) ≡ refusal x n e
+    go (yes h) = rw h
+    go (no h) = rw (ne-eqb (refusal x n e) 0 h)
+
+no-two : (ks : List Call) (x : Tables) → NoTwo (backs x ks)
+unfolding backs
+no-two [] x = tt
+no-two (k ∷ ks) x = (λ z. refusal-two x (length (k .lent)) (k .event) (sym (refused-replied x (length (k .lent)) (k .event)) ∙ z), no-two ks (onward x k))
+
+-- ---- DEMANDS 2 AND 3
+
+-- what comes back is what the rules say
+record Follows (d : Detector) (ev : Event) (r : Answered) (b e : List ℕ) : Type 0 where
+  reply : r .reply ≡ replied (tables d) (length b) ev
+  bytes : e ≡ laid b 0 (written (answer (tables d) (length b) ev .reports))
+  after : tables (r .detector) ≡ answer (tables d) (length b) ev .tables
+  valid : Valid (r .detector)
+
+same-back : {p q : Reply} {b c : List ℕ} → p ≡ q → b ≡ c → _≡_ {A = Back} (record { reply = p; buffer = b }) (record { reply = q; buffer = c })
+same-back p q = λ i. record { reply = p i; buffer = q i }
+
+counted : (x : Tables) (n : ℕ) (e : Event) → reportsIn (replied x n e) ≡ length (answer x n e .reports)
+counted x n e = go (ℕ-discrete (refusal x n e) 0)
+  where
+    go : Dec (refusal x n e ≡ 0) → reportsIn (replied x n e) ≡ length (answer x n e .reports)
+    go (yes h) = rw h
+    go (no h) = rw (ne-eqb (refusal x n e) 0 h, unserved x n e h)
+
+follows : (d : Detector) (ev : Event) (r : Answered) (b e : List ℕ) → Valid d → Steps d ev r b e → Follows d ev r b e
+unfolding refusalOf written
+follows d ev r b e v s = go (ℕ-discrete (refusal (tables d) (length b) ev) 0)
+  where
+    ruled : refusalOf d (length b) ev ≡ refusal (tables d) (length b) ev
+    ruled = rw (valid-tested d v)
+
+    go : Dec (refusal (tables d) (length b) ev ≡ 0) → Follows d ev r b e
+    go (yes h) =
+        let a = s .served (ruled ∙ h) in
+        record {
+          reply = rw (h, served (tables d) (length b) ev h) (a .0);
+          bytes = rw (served (tables d) (length b) ev h) (a .1 .bytes);
+          after = rw (served (tables d) (length b) ev h) (a .1 .state);
+          valid = a .1 .valid;
+        }
+    go (no h) =
+        let p = s .refused (omega (arith, ruled)) in
+        record {
+          reply = ap (λ (a : Answered). a .reply) (p .0) ∙ rw (ne-eqb (refusal (tables d) (length b) ev) 0 h) (ap Refused ruled);
+          bytes = rw (unserved (tables d) (length b) ev h) (p .1 ∙ sym (laid-none b 0));
+          after = rw (unserved (tables d) (length b) ev h) (ap (λ (a : Answered). tables (a .detector)) (p .0));
+          valid = subst Valid (sym (ap (λ (a : Answered). a .detector) (p .0))) v;
+        }
+
+-- any calls from a valid state
+record Ran (x : Tables) (ks : List Call) (bs : List Back) (e : Detector) : Type 0 where
+  answers : bs ≡ backs x ks
+  after : tables e ≡ ends x ks
+  valid : Valid e
+
+ran : {d : Detector} {ks : List Call} {bs : List Back} {e : Detector} → Feeds d ks bs e → Valid d → Ran (tables d) ks bs e
+unfolding backs ends
+ran none v = record { answers = refl; after = refl; valid = v }
+ran (next {d = d} {k = k} {r = r} {b = b} {ks = ks} {bs = bs} s f) v =
+    let q = follows d (k .event) r (k .lent) b v s in
+    let n = ran f (q .valid) in
+    record {
+      answers = ap₂ (λ (p : Back) (l : List Back). p ∷ l) (same-back (q .reply) (q .bytes)) (n .answers ∙ ap (λ (y : Tables). backs y ks) (q .after));
+      after = n .after ∙ ap (λ (y : Tables). ends y ks) (q .after);
+      valid = n .valid;
+    }
+
+pub as-ruled : FedAsRuled
+unfolding after
+as-ruled d e ks bs s f =
+    let n = subst (λ (x : Tables). Ran x ks bs e) (s .blank) (ran f (s .valid)) in
+    record {
+      answers = n .answers;
+      tables = n .after;
+      valid = n .valid;
+      reached = reached-ends ks empty (record { events = []; ends = refl });
+      noTwo = subst NoTwo (sym (n .answers)) (no-two ks empty);
+    }
+
+pub coincide : Coincide
+coincide d e d′ e′ ks bs bs′ s f s′ f′ =
+    let n = as-ruled d e ks bs s f in
+    let m = as-ruled d′ e′ ks bs′ s′ f′ in
+    (n .answers ∙ sym (m .answers), n .tables ∙ sym (m .tables))
+
+-- the state that is fed so is a reached one
+fed-reached : (d₀ d : Detector) (ks : List Call) (bs : List Back) → Starts d₀ → Feeds d₀ ks bs d → Reached (tables d)
+fed-reached d₀ d ks bs s f = let n = as-ruled d₀ d ks bs s f in subst Reached (sym (n .tables)) (n .reached)
+
+pub reports-true : ReportsTrue
+reports-true d₀ d ks bs s f ev r b e t =
+    let q = follows d ev r b e (as-ruled d₀ d ks bs s f .valid) t in
+    record {
+      reports = answer (tables d) (length b) ev .reports;
+      count = ap reportsIn (q .reply) ∙ counted (tables d) (length b) ev;
+      bytes = q .bytes;
+      true = rw (q .after) (first-half (tables d) (length b) ev (fed-reached d₀ d ks bs s f));
+    }
+
+carried : (C : Converse) (event : ℕ → ℕ → Outcome → Event) → Attempted C event → Called C event
+carried C event half d₀ d ks bs s f x t l o r b e k z =
+    let q = follows d (event t l o) r b e (as-ruled d₀ d ks bs s f .valid) k in
+    let n = half (tables d) (length b) t l o (fed-reached d₀ d ks bs s f) x (sym (refused-replied (tables d) (length b) (event t l o)) ∙ sym (ap refusedBy (q .reply)) ∙ z) in
+    subst₂ (C (tables d) t l o) (sym (ap reportsIn (q .reply) ∙ counted (tables d) (length b) (event t l o))) (sym (q .after)) n
+
+pub converse : CalledHalf
+converse =
+    record {
+      mutex = carried MutexConverse MutexAttempt (second-half .mutex);
+      read = carried RwConverse RwReadAttempt (second-half .read);
+      write = carried RwConverse RwWriteAttempt (second-half .write);
+    }

@@ -1,0 +1,13 @@
+-- The proofs of the statements in specs/, with the theorems' names.
+-- sessions-hold, further-hold
+pub mod Sessions
+-- what the rules of waiting, the judgements and the events keep
+pub mod Fine
+pub mod Reports
+pub mod Events
+-- reached-kept, reached-few, reached-room; demand 3: first-half
+pub mod Invariants
+-- demand 3: second-half
+pub mod Exact
+-- demand 1: all-answered, each-answered, refused-by-number; demand 2: as-ruled, coincide; demand 3: reports-true, converse
+pub mod Demands

@@ -1,0 +1,165 @@
+-- What is reported is true, and what the judgements keep.
+use mathlib.Core.Path.{_≡_, refl, sym, ap}
+use mathlib.Core.List.{List, [], _∷_, _++_, map}
+use mathlib.Core.Bool.{Bool, true, false, cond, false≢true}
+use mathlib.Core.Option.{Option, none, some}
+use Prim.Native.Nat.{ℕ, suc, _<_, _≤_}
+use native.Mathlib.Omega.{arith}
+use lib.ListN.{length}
+use Rattle.sets.specs.Lists.{In, Distinct}
+use Rattle.sets.proofs.Lists.{among-in}
+use Rattle.graph.proofs.Fits.{Fits}
+use Rattle.waits.specs.Tables.{intentOf, lockOf}
+use Rattle.waits.specs.Owners.{blocking, waitsFor}
+use Rattle.waits.specs.Waiting.{Step, register, refresh, refreshLocks}
+use Rattle.waits.specs.Filter.{passes}
+use Rattle.waits.specs.Report.{Report, Said, entries, bytesOf, quiet, saying}
+use Rattle.waits.specs.Validate.{around, valid, awaitedLocks, checked, validate}
+use Rattle.waits.specs.Attempt.{judgedOf, judged, sievedOf, sieved, settle, block, blockMutex, mutexOn}
+use Rattle.waits.specs.declared.tables.Waits.{Waits}
+use Rattle.waits.specs.declared.intent.WaitIntent.{WaitIntent}
+use Rattle.waits.specs.declared.intent.Awaits.{Awaits}
+use Rattle.waits.specs.declared.intent.Awaits.the-variants.{Nothing, For}
+use Rattle.waits.proofs.Laws.{fits-register, fits-refresh, fits-locks}
+use Rattle.waits.proofs.Telling.{length-bytes}
+use Rattle.demands.specs.Sessions.{printed}
+use Rattle.demands.specs.Invariants.{Fine}
+use Rattle.demands.specs.Demand3.{Blocks, Around, Closed, TrueCycle, flat, spelled, Each}
+use Rattle.demands.proofs.Fine.{Neat, Stepped, stepped-register, stepped-refresh, stepped-locks}
+
+-- ---- lists of reports
+
+pub each-map : (P Q : Report → Type 0) → ((r : Report) → P r → Q r) → (rs : List Report) → Each P rs → Each Q rs
+each-map P Q h [] k = tt
+each-map P Q h (r ∷ rs) k = (h r (k .0), each-map P Q h rs (k .1))
+
+pub each-append : (P : Report → Type 0) (a b : List Report) → Each P a → Each P b → Each P (a ++ b)
+each-append P [] b h k = k
+each-append P (r ∷ a) b h k = (h .0, each-append P a b (h .1) k)
+
+-- ---- what passes the validation is a true cycle
+
+-- the thread, and the lock beside its name
+abbrev seat : Waits → ℕ → ℕ × ℕ
+seat w t = (t, lockOf (intentOf w t))
+
+pub waits-blocks : (c : List ℕ) (w : Waits) (a b : ℕ) → waitsFor c w a b ≡ true → Blocks c w (seat w a) b
+unfolding waitsFor
+waits-blocks c w a b e = go (intentOf w a) refl (among-in b _ e)
+  where
+    go : (i : Awaits) → intentOf w a ≡ i → In b (blocking c w i) → Blocks c w (seat w a) b
+    go Nothing q m = absurd m
+    go (For i) q m = record { intent = i; awaits = q; beside = sym (ap lockOf q); owns = m }
+
+pub both-true : (a b : Bool) → cond a b false ≡ true → (a ≡ true) × (b ≡ true)
+both-true true b e = (refl, e)
+both-true false b e = absurd (false≢true e)
+
+around-true : (c : List ℕ) (w : Waits) (f a : ℕ) (r : List ℕ) → around c w f a r ≡ true → Around c w f (seat w a) (map (seat w) r)
+unfolding around
+around-true c w f a [] e = waits-blocks c w a f e
+around-true c w f a (b ∷ r) e = let h = both-true (waitsFor c w a b) (around c w f b r) e in (waits-blocks c w a b (h .0), around-true c w f b r (h .1))
+
+valid-closed : (c : List ℕ) (w : Waits) (p : List ℕ) → valid c w p ≡ true → Closed c w (map (seat w) p)
+unfolding valid
+valid-closed c w [] e = false≢true e
+valid-closed c w (a ∷ r) e = around-true c w a a r e
+
+threads-of : (w : Waits) (p : List ℕ) → map (λ (q : ℕ × ℕ). q .0) (map (seat w) p) ≡ p
+threads-of w [] = refl
+threads-of w (t ∷ p) = ap (λ (l : List ℕ). t ∷ l) (threads-of w p)
+
+valid-true : (c : List ℕ) (w : Waits) (p : List ℕ) → Distinct p → valid c w p ≡ true → TrueCycle c w (map (seat w) p)
+valid-true c w p d e = record { once = rw (threads-of w p) d; closed = valid-closed c w p e }
+
+-- ---- bytes
+
+seats-length : (w : Waits) (p : List ℕ) → length (map (seat w) p) ≡ length p
+seats-length w [] = refl
+seats-length w (t ∷ p) = ap suc (seats-length w p)
+
+entries-flat : (w : Waits) (p : List ℕ) → entries w p ≡ flat (map (seat w) p)
+unfolding entries flat
+entries-flat w [] = refl
+entries-flat w (t ∷ p) = ap (λ (l : List ℕ). t ∷ lockOf (intentOf w t) ∷ l) (entries-flat w p)
+
+pub bytes-spelled : (r : Report) → bytesOf r ≡ spelled (printed r)
+unfolding bytesOf
+bytes-spelled r = rw (seats-length (r .state) (r .threads), entries-flat (r .state) (r .threads))
+
+-- ---- a judgement
+
+-- a report made in tables w: true there, and of at most 32 threads
+pub record Made (c : List ℕ) (w : Waits) (r : Report) : Type 0 where
+  pub cycle : TrueCycle c (r .state) (printed r)
+  pub here : r .state ≡ w
+  pub long : length (bytesOf r) ≤ 65
+
+pub record Fair (c : List ℕ) (a : Said) : Type 0 where
+  pub fine : Fine (a .waits)
+  pub few : length (a .reports) ≤ 1
+  pub true : Each (Made c (a .waits)) (a .reports)
+
+pub fair-quiet : (c : List ℕ) (w : Waits) → Fine w → Fair c (quiet w)
+fair-quiet c w f = record { fine = f; few = omega arith; true = tt }
+
+fair-saying : (c : List ℕ) (w : Waits) (p : List ℕ) → Fine w → Distinct p → length p ≤ 32 → valid c w p ≡ true → Fair c (saying w p)
+fair-saying c w p f d n e =
+    record {
+      fine = f;
+      few = omega arith;
+      true = (record { cycle = valid-true c w p d e; here = refl; long = omega (arith, length-bytes w p) }, tt);
+    }
+
+fair-checked : (c : List ℕ) (w : Waits) (o : Option (List ℕ)) → Fine w → Neat o → Fits o → Fair c (checked c w o)
+unfolding checked
+fair-checked c w none f n k = fair-quiet c w f
+fair-checked c w (some p) f n k = go (valid c w p) refl
+  where
+    go : (b : Bool) → valid c w p ≡ b → Fair c (cond b (saying w p) (quiet w))
+    go true e = fair-saying c w p f n (k .long) e
+    go false e = fair-quiet c w f
+
+fair-validate : (c : List ℕ) (w : Waits) (p : List ℕ) → Fine w → Distinct p → length p ≤ 32 → Fair c (validate c w p)
+unfolding validate
+fair-validate c w p f n k = go (valid c w p) refl
+  where
+    s : Step
+    s = refreshLocks c w (awaitedLocks w p)
+
+    r : Stepped (refreshLocks c w (awaitedLocks w p))
+    r = stepped-locks c w (awaitedLocks w p) f
+
+    go : (b : Bool) → valid c w p ≡ b → Fair c (cond b (saying w p) (checked c (s .waits) (s .found)))
+    go true e = fair-saying c w p f n k e
+    go false e = fair-checked c (s .waits) (s .found) (r .fine) (r .neat) (fits-locks c w (awaitedLocks w p))
+
+fair-judged : (c : List ℕ) (s : Step) → Stepped s → Fits (s .found) → Fair c (judged c s)
+fair-judged c s r k = go (s .found) (r .neat) k
+  where
+    go : (o : Option (List ℕ)) → Neat o → Fits o → Fair c (judgedOf c (s .waits) o)
+    go none n k = fair-quiet c (s .waits) (r .fine)
+    go (some p) n k = fair-validate c (s .waits) p (r .fine) n (k .long)
+
+fair-sieved : (c : List ℕ) (s : Step) → Stepped s → Fits (s .found) → Fair c (sieved c s)
+fair-sieved c s r k = go (s .found) (r .neat) k
+  where
+    pass : (p : List ℕ) (b : Bool) → Distinct p → length p ≤ 32 → Fair c (cond b (validate c (s .waits) p) (quiet (s .waits)))
+    pass p true n k = fair-validate c (s .waits) p (r .fine) n k
+    pass p false n k = fair-quiet c (s .waits) (r .fine)
+
+    go : (o : Option (List ℕ)) → Neat o → Fits o → Fair c (sievedOf c (s .waits) o)
+    go none n k = fair-quiet c (s .waits) (r .fine)
+    go (some p) n k = pass p (passes c (s .waits) p) n (k .long)
+
+pub fair-settle : (c : List ℕ) (w : Waits) (l : ℕ) → Fine w → Fair c (settle c w l)
+unfolding settle
+fair-settle c w l f = fair-judged c (refresh c w l) (stepped-refresh c w l f) (fits-refresh c w l)
+
+pub fair-block : (c : List ℕ) (w : Waits) (t : ℕ) (i : WaitIntent) → t < 32 → i .«lock_id» < 64 → Fine w → Fair c (block c w t i)
+unfolding block
+fair-block c w t i h k f = fair-judged c (register c w t i) (stepped-register c w t i h k f) (fits-register c w t i)
+
+pub fair-mutex : (c : List ℕ) (w : Waits) (t l : ℕ) → t < 32 → l < 64 → Fine w → Fair c (blockMutex c w t l)
+unfolding blockMutex
+fair-mutex c w t l h k f = fair-sieved c (register c w t (mutexOn l)) (stepped-register c w t (mutexOn l) h k f) (fits-register c w t (mutexOn l))

@@ -1,0 +1,173 @@
+-- DEMAND 3. From an empty state, after any events, a cycle is true when reported: no thread stands in it twice, and each
+-- thread awaits the lock beside its name, which the next one (after the last, the first) owns so as to block that wait.
+use mathlib.Core.Path.{_≡_}
+use mathlib.Core.Logic.{_⊎_, _↔_}
+use mathlib.Core.List.{List, [], _∷_, map}
+use mathlib.Core.Bool.{true}
+use mathlib.Core.Option.{Option, some}
+use Prim.Native.Nat.{ℕ, _<_}
+use lib.ListN.{length, take}
+use Rattle.sets.specs.Lists.{In, Distinct}
+use Rattle.sets.specs.Sets.{has}
+use Rattle.graph.specs.Ways.{Cycle}
+use Rattle.graph.specs.Graph.{Edge}
+use Rattle.waits.specs.Tables.{intentOf, holdsOf, ownerOf, writerOf, own}
+use Rattle.waits.specs.Owners.{countOf, owners}
+use Rattle.waits.specs.Waiting.{register}
+use Rattle.waits.specs.Validate.{names}
+use Rattle.waits.specs.Attempt.{mutexOn}
+use Rattle.waits.specs.Report.{Report, bytesOf, written}
+use Rattle.waits.specs.Code.{laid}
+use Rattle.waits.specs.declared.tables.Waits.{Waits}
+use Rattle.waits.specs.declared.intent.WaitIntent.{WaitIntent}
+use Rattle.waits.specs.declared.intent.Awaits.the-variants.{For}
+use Rattle.waits.specs.declared.outcome.Outcome.{Outcome}
+use Rattle.waits.specs.declared.outcome.Outcome.the-variants.{Took, Blocked, Hinted}
+use Rattle.detector.specs.Tables.{Tables, queueOf}
+use Rattle.detector.specs.Condvar.{wakeAll}
+use Rattle.detector.specs.Refusals.{refusal}
+use Rattle.detector.specs.State.{tables, reportsIn, refusedBy, Steps}
+use Rattle.detector.specs.Stuck.{Truly}
+use Rattle.detector.specs.declared.event.Event.{Event}
+use Rattle.detector.specs.declared.event.Event.the-variants.{MutexAttempt, RwReadAttempt, RwWriteAttempt, CondvarNotifyAll}
+use Rattle.detector.specs.declared.state.Detector.{Detector}
+use Rattle.detector.specs.declared.reply.Answered.{Answered}
+use Rattle.demands.specs.Reached.{answer, Reached}
+use Rattle.demands.specs.Sessions.{Pairs, printed}
+use Rattle.demands.specs.Feeds.{Call, Back, Feeds, Starts}
+
+-- A TRUE CYCLE in waits w with reader counts c
+-- p's thread awaits the lock beside its name and o owns it so as to block that wait. Read so: it has an intent that names
+-- the lock, and o is among the owners that block that intent (mutex owner, writer, readers), not "o holds the lock".
+pub record Blocks (c : List ℕ) (w : Waits) (p : ℕ × ℕ) (o : ℕ) : Type 0 where
+  pub intent : WaitIntent
+  pub awaits : intentOf w (p .0) ≡ For intent
+  pub beside : intent .«lock_id» ≡ p .1
+  pub owns : In o (owners c w intent)
+
+-- p waits for the first of r, each of r for the next, and the last for f
+abbrev pub Around : List ℕ → Waits → ℕ → ℕ × ℕ → Pairs → Type 0
+Around c w f p [] = Blocks c w p f
+Around c w f p (q ∷ r) = Blocks c w p (q .0) × Around c w f q r
+
+abbrev pub Closed : List ℕ → Waits → Pairs → Type 0
+Closed c w [] = ⊥
+Closed c w (p ∷ r) = Around c w (p .0) p r
+
+pub record TrueCycle (c : List ℕ) (w : Waits) (ps : Pairs) : Type 0 where
+  pub once : Distinct (map (λ p. p .0) ps)
+  pub closed : Closed c w ps
+
+-- THE STATE IN WHICH IT IS TRUE: that of its last validation, which is the state after the event; for ca, the state after
+-- some of the pairs are treated
+abbrev pub treated : Tables → ℕ → ℕ → Waits
+treated x c n = wakeAll (x .«rwlock_readers») (record { waits = x .waits; woken = x .«cv_woken»; reports = [] }) (take n (queueOf x c)) .waits
+
+abbrev pub Passed : Tables → Event → Tables → Waits → Type 0
+Passed x e y w = (w ≡ y .waits) ⊎ ((c : ℕ) × (n : ℕ) × (e ≡ CondvarNotifyAll c) × (w ≡ treated x c n))
+
+-- ITS BYTES: one byte n, then n pairs of thread and lock
+unfoldable pub flat : Pairs → List ℕ
+flat [] = []
+flat (p ∷ ps) = p .0 ∷ p .1 ∷ flat ps
+
+abbrev pub spelled : Pairs → List ℕ
+spelled ps = length ps ∷ flat ps
+
+-- what a report r of event e is, with tables x before the event and y after it
+pub record TrueReport (x : Tables) (e : Event) (y : Tables) (r : Report) : Type 0 where
+  pub cycle : TrueCycle (y .«rwlock_readers») (r .state) (printed r)
+  pub passed : Passed x e y (r .state)
+  pub bytes : bytesOf r ≡ spelled (printed r)
+
+-- all of a list
+abbrev pub Each : (Report → Type 0) → List Report → Type 0
+Each P [] = Unit
+Each P (r ∷ rs) = P r × Each P rs
+
+-- THE FIRST HALF (`first-half`), for every event and every buffer's length
+abbrev pub FirstHalf : Type 0
+FirstHalf = (x : Tables) (room : ℕ) (e : Event) → Reached x → Each (TrueReport x e (answer x room e .tables)) (answer x room e .reports)
+
+-- Conversely, take a state so reached whose edges are exactly the true waits, and a blocked attempt whose hint is absent,
+-- names the recorded owner, or concerns a lock nobody else awaits. It is reported exactly when the true waits then hold a
+-- cycle, save a mutex attempt where all threads of the cycle that document 01 finds hold one lock that nobody reads.
+
+-- the edges are exactly the true waits
+abbrev pub Exact : Tables → Type 0
+Exact x = (a b : ℕ) → a < 32 → b < 32 → Edge (x .waits .«wait_for_graph» .edges) a b ↔ Truly x a b
+
+-- nobody but t awaits l. To await is to have an intent; `lock_waiters` may lack a thread that has one.
+abbrev pub Alone : Tables → ℕ → ℕ → Type 0
+Alone x t l = (a : ℕ) → names (intentOf (x .waits) a) l ≡ true → a ≡ t
+
+-- the attempt is blocked, and its hint is as asked. An accepted hint is below 32, so that it names the recorded owner only
+-- where there is one.
+abbrev pub Apt : Tables → ℕ → ℕ → ℕ → Outcome → Type 0
+Apt x recorded t l Took = ⊥
+Apt x recorded t l Blocked = Unit
+Apt x recorded t l (Hinted o) = (o ≡ recorded) ⊎ Alone x t l
+
+-- the cycle that document 01 finds: the path that registering gives
+abbrev pub hinted : Waits → ℕ → Outcome → Waits
+hinted w l Took = w
+hinted w l Blocked = w
+hinted w l (Hinted o) = own w l o
+
+abbrev pub pathFound : Tables → ℕ → ℕ → Outcome → Option (List ℕ)
+pathFound x t l o = register (x .«rwlock_readers») (hinted (x .waits) l o) t (mutexOn l) .found
+
+-- all threads of p hold one lock that nobody reads
+pub record Shared (c : List ℕ) (w : Waits) (p : List ℕ) : Type 0 where
+  pub lock : ℕ
+  pub inside : lock < 64
+  pub held : (t : ℕ) → In t p → has (holdsOf w t) lock ≡ true
+  pub unread : (t : ℕ) → t < 32 → countOf c lock t ≡ 0
+
+abbrev pub Spared : Tables → ℕ → ℕ → Outcome → Tables → Type 0
+Spared x t l o y = (p : List ℕ) × (pathFound x t l o ≡ some p) × Shared (y .«rwlock_readers») (y .waits) p
+
+-- what is asked of an attempt by t on l with outcome o in tables x that gives n reports and tables y. "Then" is the state
+-- after the event; the recorded owner is the writer for ra and wa.
+abbrev pub Converse : Type 1
+Converse = Tables → ℕ → ℕ → Outcome → ℕ → Tables → Type 0
+
+abbrev pub MutexConverse : Converse
+MutexConverse x t l o n y = Apt x (ownerOf (x .waits) l) t l o → (0 < n) ↔ (Cycle (Truly y) × (Spared x t l o y → ⊥))
+
+abbrev pub RwConverse : Converse
+RwConverse x t l o n y = Apt x (writerOf (x .waits) l) t l o → (0 < n) ↔ Cycle (Truly y)
+
+-- THE SECOND HALF (`second-half`), for every attempt that is not refused
+abbrev pub Attempted : Converse → (ℕ → ℕ → Outcome → Event) → Type 0
+Attempted Holds event =
+    (x : Tables) (room t l : ℕ) (o : Outcome) → Reached x → Exact x → refusal x room (event t l o) ≡ 0
+    → Holds x t l o (length (answer x room (event t l o) .reports)) (answer x room (event t l o) .tables)
+
+pub record SecondHalf : Type 0 where
+  pub mutex : Attempted MutexConverse MutexAttempt
+  pub read : Attempted RwConverse RwReadAttempt
+  pub write : Attempted RwConverse RwWriteAttempt
+
+-- CARRIED TO THE CODE (`reports-true`, `converse`): the same of what `step` returns in a state fed from the empty one
+pub record Shows (d : Detector) (ev : Event) (r : Answered) (b e : List ℕ) : Type 0 where
+  pub reports : List Report
+  pub count : reportsIn (r .reply) ≡ length reports
+  pub bytes : e ≡ laid b 0 (written reports)
+  pub true : Each (TrueReport (tables d) ev (tables (r .detector))) reports
+
+abbrev pub ReportsTrue : Type 0
+ReportsTrue =
+    (d₀ d : Detector) (ks : List Call) (bs : List Back) → Starts d₀ → Feeds d₀ ks bs d
+    → (ev : Event) (r : Answered) (b e : List ℕ) → Steps d ev r b e → Shows d ev r b e
+
+abbrev pub Called : Converse → (ℕ → ℕ → Outcome → Event) → Type 0
+Called Holds event =
+    (d₀ d : Detector) (ks : List Call) (bs : List Back) → Starts d₀ → Feeds d₀ ks bs d → Exact (tables d)
+    → (t l : ℕ) (o : Outcome) (r : Answered) (b e : List ℕ) → Steps d (event t l o) r b e → refusedBy (r .reply) ≡ 0
+    → Holds (tables d) t l o (reportsIn (r .reply)) (tables (r .detector))
+
+pub record CalledHalf : Type 0 where
+  pub mutex : Called MutexConverse MutexAttempt
+  pub read : Called RwConverse RwReadAttempt
+  pub write : Called RwConverse RwWriteAttempt

@@ -1,0 +1,90 @@
+-- WHAT HOLDS OF EVERY REACHED STATE. That the code's places behind a queue's end hold 0 is demand 2's `valid`.
+use mathlib.Core.Path.{_≡_}
+use mathlib.Core.List.{List, [], _∷_}
+use mathlib.Core.Bool.{true}
+use Prim.Native.Nat.{ℕ, _<_, _≤_, _^_}
+use lib.ListN.{getD, length}
+use Rattle.sets.specs.Sets.{has}
+use Rattle.graph.specs.Search.{row}
+use Rattle.graph.specs.Graph.{Good}
+use Rattle.waits.specs.Tables.{intentOf, waitersOf, InRange}
+use Rattle.waits.specs.Report.{written}
+use Rattle.waits.specs.Validate.{names}
+use Rattle.waits.specs.declared.tables.Waits.{Waits}
+use Rattle.waits.specs.declared.intent.Slot.{Slot}
+use Rattle.detector.specs.Tables.{Tables, blankWait, queueOf}
+use Rattle.detector.specs.State.{Waiting}
+use Rattle.detector.specs.declared.event.Event.{Event}
+use Rattle.detector.specs.declared.event.Event.the-variants.{MutexAttempt, MutexAcquired, MutexReleased, MutexExit, RwReadAttempt, RwReadAcquired, RwReadTry, RwReadReleased, RwWriteAttempt, RwWriteAcquired, RwWriteReleased, RwExit, CondvarSpawn, CondvarExit, CondvarWaitBegin, CondvarNotifyOne, CondvarNotifyAll, CondvarWaitEnd}
+use Rattle.detector.specs.declared.state.Pair.{Pair}
+use Rattle.demands.specs.Reached.{answer, Reached}
+
+-- 32 threads and 64 locks, and sets of them
+pub record Shaped (slots : List Slot) (waiters holds owners writers : List ℕ) : Type 0 where
+  pub threads : length slots ≡ 32
+  pub locks : length waiters ≡ 64
+  pub few : (l : ℕ) → row waiters l < 2 ^ 32
+  pub holders : length holds ≡ 32
+  pub held : (t : ℕ) → row holds t < 2 ^ 64
+  pub owned : length owners ≡ 64
+  pub written : length writers ≡ 64
+
+pub record Fine (w : Waits) : Type 0 where
+  -- `edges` and `incoming_edges` mirror each other and hold no cycle, not even of one thread
+  pub graph : Good (w .«wait_for_graph»)
+  -- a thread among l's waiters has an intent that names l
+  pub named : (l t : ℕ) → has (waitersOf w l) t ≡ true → names (intentOf w t) l ≡ true
+  pub range : InRange w
+  pub shaped : Shaped (w .«thread_waits_for») (w .«lock_waiters») (w .«thread_holds») (w .«mutex_owners») (w .«rwlock_writer»)
+
+-- at most 255 at each of 64 locks and 32 threads
+pub record Counts (c : List ℕ) : Type 0 where
+  pub size : length c ≡ 2048
+  pub small : (k : ℕ) → getD c k 0 ≤ 255
+
+-- every pair of a queue in range
+abbrev pub Seated : List Pair → Type 0
+Seated [] = Unit
+Seated (p ∷ q) = (p .thread < 32) × (p .lock < 64) × Seated q
+
+pub record Kept (x : Tables) : Type 0 where
+  pub waits : Fine (x .waits)
+  pub counts : Counts (x .«rwlock_readers»)
+  pub condvars : length (x .«cv_waiters») ≡ 16
+  pub queues : (c : ℕ) → length (queueOf x c) ≤ 32
+  pub seated : (c : ℕ) → Seated (queueOf x c)
+  pub sleepers : length (x .«thread_wait_cv») ≡ 32
+  pub waiting : (t : ℕ) → Waiting (getD (x .«thread_wait_cv») t blankWait)
+  pub woken : x .«cv_woken» < 2 ^ 32
+
+-- ca gives at most 32 reports, ma, mc, ra, wa, wc and c1 at most one, the others none
+abbrev pub most : Event → ℕ
+most (MutexAttempt t l o) = 1
+most (MutexAcquired t l) = 1
+most (MutexReleased t l) = 0
+most (MutexExit l) = 0
+most (RwReadAttempt t l o) = 1
+most (RwReadAcquired t l) = 0
+most (RwReadTry t l o) = 0
+most (RwReadReleased t l) = 0
+most (RwWriteAttempt t l o) = 1
+most (RwWriteAcquired t l) = 1
+most (RwWriteReleased t l) = 0
+most (RwExit l) = 0
+most (CondvarSpawn c) = 0
+most (CondvarExit c) = 0
+most (CondvarWaitBegin t c l) = 0
+most (CondvarNotifyOne c) = 1
+most (CondvarNotifyAll c) = 32
+most (CondvarWaitEnd t c l) = 0
+
+-- THE THEOREMS (`reached-kept`, `reached-few`, `reached-room`)
+abbrev pub ReachedKept : Type 0
+ReachedKept = (x : Tables) → Reached x → Kept x
+
+abbrev pub ReachedFew : Type 0
+ReachedFew = (x : Tables) (room : ℕ) (e : Event) → Reached x → length (answer x room e .reports) ≤ most e
+
+-- 2,080 bytes always suffice
+abbrev pub ReachedRoom : Type 0
+ReachedRoom = (x : Tables) (room : ℕ) (e : Event) → Reached x → length (written (answer x room e .reports)) ≤ 2080

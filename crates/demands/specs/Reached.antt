@@ -1,0 +1,28 @@
+-- THE RULES' RUN: events one after the other, and the tables that are so reached from the empty state.
+use mathlib.Core.Path.{_≡_}
+use mathlib.Core.List.{List, [], _∷_}
+use mathlib.Core.Bool.{cond}
+use Prim.Native.Nat.{ℕ}
+use lib.Dec.{eqb}
+use Rattle.detector.specs.Tables.{Tables, Answer, silent, empty}
+use Rattle.detector.specs.Events.{apply}
+use Rattle.detector.specs.Refusals.{refusal}
+use Rattle.detector.specs.declared.event.Event.{Event}
+
+-- one event in tables x, with room bytes for its reports: refused, and the tables stay as they are; or its rule's answer
+unfoldable pub answer : Tables → ℕ → Event → Answer
+answer x room e = cond (eqb (refusal x room e) 0) (apply e x) (silent x)
+
+-- room for every report
+abbrev pub room : ℕ
+room = 2080
+
+-- the tables after the events
+unfoldable pub after : Tables → List Event → Tables
+after x [] = x
+after x (e ∷ es) = after (answer x room e .tables) es
+
+-- x is reached from the empty state
+pub record Reached (x : Tables) : Type 0 where
+  pub events : List Event
+  pub ends : after empty events ≡ x
