@@ -68,7 +68,7 @@ after-snoc [] e x = refl
 after-snoc (f ∷ es) e x = after-snoc es e (answer x room f .tables)
 
 -- one event more, with any buffer
-reached-next : (x : Tables) (n : ℕ) (e : Event) → Reached x → Reached (answer x n e .tables)
+pub reached-next : (x : Tables) (n : ℕ) (e : Event) → Reached x → Reached (answer x n e .tables)
 reached-next x n e r = go (ℕ-discrete (refusal x n e) 0)
   where
     go : Dec (refusal x n e ≡ 0) → Reached (answer x n e .tables)

@@ -59,7 +59,7 @@ unfolding written
 written-length P h [] k = lit≤ tt
 written-length P h (r ∷ rs) k = omega (arith, length-append (bytesOf r) (written rs), h r (k .0), written-length P h rs (k .1))
 
-most-32 : (e : Event) → most e ≤ 32
+pub most-32 : (e : Event) → most e ≤ 32
 most-32 (MutexAttempt t l o) = lit≤ tt
 most-32 (MutexAcquired t l) = lit≤ tt
 most-32 (MutexReleased t l) = lit≤ tt

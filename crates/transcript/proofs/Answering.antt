@@ -1,0 +1,136 @@
+-- What an event's promise makes of the answer to its line.
+use mathlib.Core.Path.{_≡_, refl, sym, ap, ap₂, _∙_, subst}
+use mathlib.Core.Bool.{Bool, true, false, cond}
+use mathlib.Core.List.{List, [], _∷_, _++_, map}
+use Prim.Native.Nat.{ℕ, zero, suc, _+_, _<_, _≤_, _^_}
+use native.Mathlib.Omega.{arith}
+use lib.Dec.{eqb, ltb}
+use lib.ListN.{length, take, drop, getD, length-map}
+use lib.Seq.{sets-eq}
+use Rattle.waits.specs.Report.{Report, written, bytesOf, entries}
+use Rattle.waits.specs.Code.{laid}
+use Rattle.waits.specs.declared.tables.Waits.{Waits}
+use Rattle.waits.specs.declared.outcome.Outcome.the-variants.{Took, Blocked, Hinted}
+use Rattle.waits.specs.declared.outcome.Tried.the-variants.{Taken, Missed}
+use Rattle.waits.specs.Owners.{countOf}
+use Rattle.detector.specs.Tables.{Tables, Answer, queueOf}
+use Rattle.detector.specs.Events.{apply}
+use Rattle.detector.specs.Refusals.{Numbers, numbersOf, outside, full, refusal}
+use Rattle.detector.specs.State.{tables, Valid, Does, Answers}
+use Rattle.detector.specs.declared.event.Event.{Event}
+use Rattle.detector.specs.declared.event.Event.the-variants.{MutexAttempt, MutexAcquired, MutexReleased, MutexExit, RwReadAttempt, RwReadAcquired, RwReadTry, RwReadReleased, RwWriteAttempt, RwWriteAcquired, RwWriteReleased, RwExit, CondvarSpawn, CondvarExit, CondvarWaitBegin, CondvarNotifyOne, CondvarNotifyAll, CondvarWaitEnd}
+use Rattle.detector.specs.declared.state.Detector.{Detector}
+use Rattle.detector.specs.declared.reply.Answered.{Answered}
+use Rattle.detector.specs.declared.reply.Reply.{Reply}
+use Rattle.detector.specs.declared.reply.Reply.the-variants.{Reports, Refused}
+use Rattle.demands.specs.Reached.{answer, Reached}
+use Rattle.demands.specs.Invariants.{most}
+use Rattle.demands.proofs.Events.{served}
+use Rattle.demands.proofs.Invariants.{reached-few, reached-room, most-32}
+use Rattle.demands.proofs.Demands.{reached-next}
+use Rattle.answers.specs.Reports.{Entry, reportsIn, reportsSize, entriesBytes, reportsBytes}
+use Rattle.answers.specs.Answers.{reports}
+use Rattle.answers.proofs.Laid.{reports-read, reports-size}
+use Rattle.transcript.specs.Replay.{room, itemOf, itemsOf, Result, refused, eventResult}
+use Rattle.transcript.specs.Code.{Good, Results}
+
+-- ---- the bytes of reports are those of their items
+
+entries-items : (w : Waits) (p : List ℕ) → entries w p ≡ entriesBytes (map (itemOf w) p)
+unfolding entries entriesBytes
+entries-items w [] = refl
+entries-items w (t ∷ p) = rw (entries-items w p)
+
+written-items : (rs : List Report) → written rs ≡ reportsBytes (map itemsOf rs)
+unfolding written reportsBytes bytesOf
+written-items [] = refl
+written-items (r ∷ rs) = rw (entries-items (r .state) (r .threads), length-map (r .threads) (itemOf (r .state)), written-items rs)
+
+laid-items : (b e : List ℕ) (rs : List Report) → length (written rs) ≤ length b → e ≡ laid b 0 (written rs) → e ≡ reportsBytes (map itemsOf rs) ++ drop (length (written rs)) b
+unfolding laid
+laid-items b e rs h q =
+    let z : 0 + length (written rs) ≡ length (written rs) = omega arith in
+    q ∙ sets-eq (written rs) b 0 (omega arith) ∙ ap₂ (λ (x : List ℕ) (k : ℕ). x ++ drop k b) (written-items rs) z
+
+read-items : (b e : List ℕ) (rs : List Report) → length (written rs) ≤ length b → e ≡ laid b 0 (written rs) → reportsIn (length rs) e ≡ map itemsOf rs
+read-items b e rs h q =
+    ap₂ reportsIn (sym (length-map rs itemsOf)) (laid-items b e rs h q) ∙ reports-read (map itemsOf rs) (drop (length (written rs)) b)
+
+size-items : (b e : List ℕ) (rs : List Report) → length (written rs) ≤ length b → e ≡ laid b 0 (written rs) → reportsSize (length rs) e ≡ length (written rs)
+size-items b e rs h q =
+    ap₂ reportsSize (sym (length-map rs itemsOf)) (laid-items b e rs h q) ∙ reports-size (map itemsOf rs) (drop (length (written rs)) b) ∙ ap length (sym (written-items rs))
+
+-- ---- refusal numbers are small
+
+if-small : (b : Bool) (n m : ℕ) → n < 256 → m < 256 → cond b n m < 256
+if-small true n m p q = p
+if-small false n m p q = q
+
+full-small : (x : Tables) (e : Event) → full x e < 256
+full-small x (RwReadAttempt t l Took) = if-small (eqb (countOf (x .«rwlock_readers») l t) 255) 8 0 (omega arith) (omega arith)
+full-small x (RwReadAttempt t l Blocked) = omega arith
+full-small x (RwReadAttempt t l (Hinted o)) = omega arith
+full-small x (RwReadAcquired t l) = if-small (eqb (countOf (x .«rwlock_readers») l t) 255) 8 0 (omega arith) (omega arith)
+full-small x (RwReadTry t l Taken) = if-small (eqb (countOf (x .«rwlock_readers») l t) 255) 8 0 (omega arith) (omega arith)
+full-small x (RwReadTry t l Missed) = omega arith
+full-small x (CondvarWaitBegin t c l) = if-small (ltb (length (queueOf x c)) 32) 0 7 (omega arith) (omega arith)
+full-small x (MutexAttempt t l o) = omega arith
+full-small x (MutexAcquired t l) = omega arith
+full-small x (MutexReleased t l) = omega arith
+full-small x (MutexExit l) = omega arith
+full-small x (RwReadReleased t l) = omega arith
+full-small x (RwWriteAttempt t l o) = omega arith
+full-small x (RwWriteAcquired t l) = omega arith
+full-small x (RwWriteReleased t l) = omega arith
+full-small x (RwExit l) = omega arith
+full-small x (CondvarSpawn c) = omega arith
+full-small x (CondvarExit c) = omega arith
+full-small x (CondvarNotifyOne c) = omega arith
+full-small x (CondvarNotifyAll c) = omega arith
+full-small x (CondvarWaitEnd t c l) = omega arith
+
+refusal-small : (x : Tables) (n : ℕ) (e : Event) → refusal x n e < 256
+unfolding refusal outside
+refusal-small x n e =
+    let k = numbersOf e in
+    if-small (ltb 31 (k .thread)) 3 _ (omega arith) (if-small (ltb 31 (k .hint)) 3 _ (omega arith) (if-small (ltb 63 (k .lock)) 4 _ (omega arith)
+    (if-small (ltb 15 (k .condvar)) 5 _ (omega arith) (if-small (ltb n 2080) 6 _ (omega arith) (full-small x e)))))
+
+-- ---- a line that does not read, an event that is refused, one that is served
+
+pub refused-results : (d : Detector) (k : ℕ) (b : List ℕ) → Good d → k < 256 → Results (record { detector = d; reply = Refused k }) b (refused (tables d) k)
+unfolding reportsIn reportsSize
+refused-results d k b g h = record { good = g; state = refl; reply = refl; cycles = refl; held = omega arith; few = omega arith; small = h }
+
+served-results : (d : Detector) (e : Event) (r : Detector) (b c : List ℕ) → Good d → length b ≡ room → refusal (tables d) room e ≡ 0
+    → Does (record { detector = r; reports = length (apply e (tables d) .reports) }) b c (apply e (tables d))
+    → Results (record { detector = r; reply = Reports (length (apply e (tables d) .reports)) }) c (eventResult (tables d) e 0)
+served-results d e r b c g n q s =
+    let x = tables d in
+    let a : answer x room e ≡ apply e x = served x room e q in
+    let few : length (apply e x .reports) ≤ most e = subst (λ (z : Answer). length (z .reports) ≤ most e) a (reached-few x room e (g .reached)) in
+    let fits : length (written (apply e x .reports)) ≤ 2080 = subst (λ (z : Answer). length (written (z .reports)) ≤ 2080) a (reached-room x room e (g .reached)) in
+    let h : length (written (apply e x .reports)) ≤ length b = omega arith in
+    record {
+      good = record { valid = s .valid; reached = subst Reached (ap (λ (z : Answer). z .tables) a ∙ sym (s .state)) (reached-next x room e (g .reached)) };
+      state = s .state;
+      reply = refl;
+      cycles = read-items b c (apply e x .reports) h (s .bytes);
+      held = omega (arith, size-items b c (apply e x .reports) h (s .bytes));
+      few = omega (arith, most-32 e);
+      small = omega (arith, most-32 e);
+    }
+
+pub event-results : (d : Detector) (e : Event) (r : Answered) (b c : List ℕ) → Good d → length b ≡ room → Answers (refusal (tables d) (length b) e) d e r b c
+    → Results r c (eventResult (tables d) e (refusal (tables d) room e))
+event-results d e r b c g n s =
+    go (refusal (tables d) room e) refl (subst (λ (k : ℕ). Answers (refusal (tables d) k e) d e r b c) n s)
+  where
+    go : (k : ℕ) → refusal (tables d) room e ≡ k → Answers (refusal (tables d) room e) d e r b c → Results r c (eventResult (tables d) e k)
+    go zero q s =
+        let p = s .served q in
+        subst (λ (y : Reply). Results (record { detector = r .detector; reply = y }) c (eventResult (tables d) e 0)) (sym (p .0)) (served-results d e (r .detector) b c g n q (p .1))
+    go (suc k) q s =
+        let p = s .refused (omega arith) in
+        subst (λ (z : Answered). Results z c (refused (tables d) (suc k))) (sym (p .0 ∙ ap (λ (m : ℕ). record { detector = d; reply = Refused m }) q))
+        (refused-results d (suc k) c g (omega (arith, refusal-small (tables d) room e)))

@@ -1,0 +1,144 @@
+-- Turns one after the other, and the text's end.
+use mathlib.Core.Path.{_≡_, refl, sym, ap, ap₂, _∙_, subst}
+use mathlib.Core.Bool.{Bool, true, false}
+use mathlib.Core.List.{List, [], _∷_, _++_, append-nil}
+use Prim.Native.Nat.{ℕ, zero, suc, _+_, _-_, _<_, _≤_}
+use native.Mathlib.Omega.{arith}
+use borrow.Author.Tests.{lt-ltb, le-ltb}
+use lib.Dec.{ltb}
+use lib.ListN.{length, take, drop, length-take, take-append-drop}
+use lib.Seq.{slice-empty, take-take, drop-append-le, length-take-le}
+use Rattle.answers.specs.Text.{Put}
+use Rattle.answers.specs.Answers.{answerRoom, endRoom, endText}
+use Rattle.answers.proofs.Puts.{then, put-length}
+use native.Mathlib.Decide.{ℕ-discrete}
+use Rattle.detector.specs.Tables.{Tables, empty}
+use Rattle.detector.specs.State.{tables, Valid}
+use Rattle.detector.specs.declared.state.Detector.{Detector}
+use Rattle.demands.specs.Reached.{after as reach}
+use Rattle.detector.specs.Stuck.{stuckCount, edgeCount}
+use Rattle.transcript.specs.Lines.{lineFeed}
+use Rattle.transcript.specs.Replay.{Run, limit, lineText, lastText, after, textOf}
+use Rattle.transcript.specs.Chunks.{Mid, mid, step, said, fed, says, ends, lastLine}
+use Rattle.transcript.specs.Code.{runOf, midOf, Begins, Kept, between, Turns, Feeds}
+use Rattle.transcript.specs.declared.run.Run as code
+use Rattle.transcript.specs.declared.run.Turned.{Turned}
+use Rattle.transcript.proofs.Text.{fed-append, says-append, text-full}
+
+-- ---- between two turns
+
+between-on : (a b c : ℕ) (l : List ℕ) → a ≤ b → b ≤ c → c ≤ length l → between a c l ≡ between a b l ++ between b c l
+between-on a b c l h g k =
+    ap (drop a) (sym (take-append-drop b (take c l)) ∙ ap (λ (x : List ℕ). x ++ drop b (take c l)) (take-take b c l g))
+    ∙ drop-append-le a (take b l) (drop b (take c l)) (omega (arith, length-take-le b l (omega arith)))
+
+pub record Going (m : Mid) (chunk : List ℕ) (from : ℕ) (out : List ℕ) (at : ℕ) (carry out′ : List ℕ) (r : code.Run) (i to : ℕ) : Type 0 where
+  pub kept : Kept r carry
+  pub onward : from ≤ i
+  pub inside : i ≤ length chunk
+  pub after : midOf r carry ≡ fed m (between from i chunk)
+  pub text : Put out at (says m (between from i chunk)) out′ to
+  pub place : to ≤ length out
+
+pub going-none : (chunk : List ℕ) (from : ℕ) (out : List ℕ) (at : ℕ) (carry : List ℕ) (r : code.Run) → Kept r carry → from ≤ length chunk → at ≤ length out
+    → Going (midOf r carry) chunk from out at carry out r from at
+unfolding fed says
+going-none chunk from out at carry r k h w =
+    record {
+      kept = k;
+      onward = omega arith;
+      inside = h;
+      after = sym (ap (fed (midOf r carry)) (slice-empty from chunk));
+      text = subst (λ (s : List ℕ). Put out at s out at) (sym (ap (says (midOf r carry)) (slice-empty from chunk))) (record { bytes = refl; place = omega arith });
+      place = w;
+    }
+
+module _ {m : Mid} {chunk : List ℕ} {from : ℕ} {out : List ℕ} {at : ℕ} {carry out′ : List ℕ} {r : code.Run} {i to : ℕ} (g : Going m chunk from out at carry out′ r i to) where
+  pub going-turn : (t : Turned) (carry″ out″ : List ℕ) → to + answerRoom ≤ length out → Turns r carry chunk i out′ to t carry″ out″ → Going m chunk from out at carry″ out″ (t .run) (t .next) (t .at)
+  going-turn t carry″ out″ w s =
+      let cut : between from (t .next) chunk ≡ between from i chunk ++ between i (t .next) chunk = between-on from i (t .next) chunk (g .onward) (omega (arith, s .onward)) (s .inside) in
+      record {
+        kept = s .kept;
+        onward = omega (arith, g .onward, s .onward);
+        inside = s .inside;
+        after = s .after ∙ ap (λ (n : Mid). fed n (between i (t .next) chunk)) (g .after) ∙ sym (fed-append m (between from i chunk) (between i (t .next) chunk)) ∙ sym (ap (fed m) cut);
+        text = subst (λ (z : List ℕ). Put out at z out″ (t .at))
+            (ap (λ (n : Mid). says m (between from i chunk) ++ says n (between i (t .next) chunk)) (g .after) ∙ sym (says-append m (between from i chunk) (between i (t .next) chunk)) ∙ sym (ap (says m) cut))
+            (then (g .text) (s .text));
+        place = omega (arith, s .place);
+      }
+
+  pub going-done : (i < length chunk → r .lines < limit → length out < to + answerRoom) → (r₀ : code.Run) (carry₀ : List ℕ) → m ≡ midOf r₀ carry₀
+      → Feeds r₀ carry₀ chunk from out at (record { run = r; next = i; at = to }) carry out′
+  going-done h r₀ carry₀ e =
+      record {
+        kept = g .kept;
+        onward = g .onward;
+        inside = g .inside;
+        after = g .after ∙ ap (λ (n : Mid). fed n (between from i chunk)) e;
+        text = subst (λ (n : Mid). Put out at (says n (between from i chunk)) out′ to) e (g .text);
+        place = g .place;
+        stops = h;
+      }
+
+-- ---- the end
+
+pub sums-text : (n e s : ℕ) (x : Tables) → e ≡ edgeCount (x .waits .«wait_for_graph» .edges) → s ≡ stuckCount x → endText n e s ≡ lastText (record { lines = n; tables = x })
+unfolding lastText
+sums-text n e s x p q = ap₂ (endText n) p q
+
+pub ends-none : (r : code.Run) (carry : List ℕ) → r .have ≡ 0 → ends (midOf r carry) ≡ lastText (runOf r)
+unfolding ends textOf
+ends-none r carry e = ap (λ (h : ℕ). textOf (runOf r) (lastLine (take h carry))) e
+
+pub ends-full : (r : code.Run) (carry : List ℕ) → r .lines ≡ limit → ends (midOf r carry) ≡ lastText (runOf r)
+unfolding ends
+ends-full r carry e = text-full (runOf r) (lastLine (take (r .have) carry)) (le-ltb (r .lines) limit (omega arith))
+
+ends-line : (p : List ℕ) (r : Run) → 0 < length p → ltb (r .lines) limit ≡ true → ends (mid p r) ≡ says (mid p r) (lineFeed ∷ []) ++ lastText (fed (mid p r) (lineFeed ∷ []) .run)
+unfolding ends textOf says said fed step
+ends-line [] r h e = absurd (omega arith)
+ends-line (b ∷ p) r h e = rw (e, append-nil)
+
+-- the last line lacks its line feed
+pub ends-more : (r : code.Run) (carry carry′ out out₁ out₂ : List ℕ) (at k : ℕ) (t : Turned) → Kept r carry → (r .have ≡ 0 → ⊥) → (r .lines ≡ limit → ⊥)
+    → Turns r carry (lineFeed ∷ []) 0 out at t carry′ out₁ → Put out₁ (t .at) (lastText (runOf (t .run))) out₂ k × (k ≤ t .at + endRoom)
+    → Put out at (ends (midOf r carry)) out₂ k × (k ≤ at + answerRoom + endRoom)
+ends-more r carry carry′ out out₁ out₂ at k t g h n s p =
+    let one : t .next ≡ 1 = omega (arith, s .onward, s .inside) in
+    let cut : between 0 (t .next) (lineFeed ∷ []) ≡ lineFeed ∷ [] = ap (λ (j : ℕ). between 0 j (lineFeed ∷ [])) one in
+    let some : 0 < length (take (r .have) carry) = omega (arith, length-take (r .have) carry, g .long, h) in
+    let free : ltb (r .lines) limit ≡ true = lt-ltb (r .lines) limit (omega (arith, g .lines, n)) in
+    let last : runOf (t .run) ≡ fed (midOf r carry) (lineFeed ∷ []) .run = ap (λ (m : Mid). m .run) (s .after ∙ ap (fed (midOf r carry)) cut) in (
+      subst (λ (z : List ℕ). Put out at z out₂ k)
+          (ap₂ (λ (c : List ℕ) (u : Run). says (midOf r carry) c ++ lastText u) cut last ∙ sym (ends-line (take (r .have) carry) (runOf r) some free))
+          (then (s .text) (p .0)),
+      omega (arith, p .1, s .place),
+    )
+
+-- ---- the start, and that a call moves on
+
+pub begins : (d : Detector) → tables d ≡ empty → Valid d → Begins (record { detector = d; lines = 0; have = 0 })
+unfolding reach
+begins d e v =
+    record {
+      good = record { valid = v; reached = record { events = []; ends = sym e } };
+      run = ap (λ (x : Tables). record { lines = 0; tables = x }) e;
+      have = refl;
+    }
+
+pub begins-kept : {r : code.Run} {carry : List ℕ} → Begins r → length carry ≡ 41 → Kept r carry
+begins-kept b h = record { good = b .good; lines = omega (arith, ap (λ (u : Run). u .lines) (b .run)); have = omega (arith, b .have); long = h }
+
+pub feeds-move : {r : code.Run} {carry chunk : List ℕ} {from : ℕ} {out : List ℕ} {at : ℕ} {t : Turned} {carry′ out′ : List ℕ} → Feeds r carry chunk from out at t carry′ out′
+    → from < length chunk → r .lines < limit → at + answerRoom ≤ length out → from < t .next
+unfolding fed says
+feeds-move {r} {carry} {chunk} {from} {out} {at} {t} {carry′} {out′} f h k w = go (ℕ-discrete from (t .next))
+  where
+    go : Dec (from ≡ t .next) → from < t .next
+    go (no n) = omega (arith, n, f .onward)
+    go (yes e) =
+        let cut : between from (t .next) chunk ≡ [] = ap (λ (j : ℕ). between from j chunk) (sym e) ∙ slice-empty from chunk in
+        let same : t .run .lines ≡ r .lines = ap (λ (m : Mid). m .run .lines) (f .after ∙ ap (fed (midOf r carry)) cut) in
+        let here : t .at ≡ at + length (says (midOf r carry) []) = f .text .place ∙ ap (λ (z : List ℕ). at + length (says (midOf r carry) z)) cut in
+        absurd (omega (arith, f .stops (omega arith) (omega arith), here))

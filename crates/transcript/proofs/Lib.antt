@@ -1,0 +1,5 @@
+pub mod Text
+pub mod Carry
+pub mod Answering
+pub mod Turning
+pub mod Feeding

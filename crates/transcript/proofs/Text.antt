@@ -1,0 +1,114 @@
+-- THE TEXT THEOREM: the text in whatever chunks prints what the definition says of it.
+use mathlib.Core.Path.{_≡_, refl, sym, ap, _∙_}
+use mathlib.Core.Bool.{Bool, true, false, cond}
+use mathlib.Core.List.{List, [], _∷_, _++_, append-assoc, append-nil}
+use Prim.Native.Nat.{ℕ, _<_, _≤_}
+use native.Mathlib.Omega.{arith}
+use borrow.Author.Tests.{leb-true, leb-false}
+use lib.Dec.{eqb, ltb, leb}
+use lib.ListN.{length, take, length-append, length-take}
+use lib.Seq.{take-all, take-append-le, take-take, append-snoc}
+use Rattle.script.specs.Fields.{onFirst}
+use Rattle.script.specs.Lines.{lineOf}
+use Rattle.script.proofs.Steps.{line-cut}
+use Rattle.detector.specs.Tables.{Tables}
+use Rattle.transcript.specs.Lines.{lineFeed, linesOf}
+use Rattle.transcript.specs.Replay.{Run, limit, begun, lineResult, resultOf, after, lineText, lastText, textOf, replayText}
+use Rattle.transcript.specs.Chunks.{Mid, mid, start, step, said, fed, says, lastLine, ends, fedAll, saysAll, joined, TextTheorem}
+
+-- ---- feeding a and then b is feeding a ++ b
+
+pub fed-append : (m : Mid) (a b : List ℕ) → fed m (a ++ b) ≡ fed (fed m a) b
+unfolding fed
+fed-append m [] b = refl
+fed-append m (x ∷ a) b = fed-append (step m x) a b
+
+pub says-append : (m : Mid) (a b : List ℕ) → says m (a ++ b) ≡ says m a ++ says (fed m a) b
+unfolding fed says
+says-append m [] b = refl
+says-append m (x ∷ a) b = rw (says-append (step m x) a b, append-assoc)
+
+fed-joined : (m : Mid) (ts : List (List ℕ)) → fedAll m ts ≡ fed m (joined ts)
+unfolding fedAll fed joined
+fed-joined m [] = refl
+fed-joined m (t ∷ ts) = fed-joined (fed m t) ts ∙ sym (fed-append m t (joined ts))
+
+says-joined : (m : Mid) (ts : List (List ℕ)) → saysAll m ts ≡ says m (joined ts)
+unfolding saysAll says joined
+says-joined m [] = refl
+says-joined m (t ∷ ts) = ap (λ (x : List ℕ). says m t ++ x) (says-joined (fed m t) ts) ∙ sym (says-append m t (joined ts))
+
+-- ---- a line cut at 41 bytes answers as the whole line
+
+pub cut-result : (x : Tables) (p : List ℕ) → resultOf x (take 41 p) ≡ resultOf x p
+unfolding resultOf
+cut-result x p = ap (lineResult x) (line-cut p)
+
+more-pick : (t : Bool) (p x : List ℕ) → leb (length p) 41 ≡ t → take 41 (take 41 p ++ x) ≡ take 41 (p ++ x)
+more-pick true p x e = rw (take-all 41 p (leb-true (length p) 41 e))
+more-pick false p x e =
+    let h : 41 < length p = leb-false (length p) 41 e in
+    take-append-le 41 (take 41 p) x (omega (arith, length-take 41 p)) ∙ take-take 41 41 p (omega arith) ∙ sym (take-append-le 41 p x (omega arith))
+
+pub cut-more : (p x : List ℕ) → take 41 (take 41 p ++ x) ≡ take 41 (p ++ x)
+cut-more p x = more-pick (leb (length p) 41) p x refl
+
+-- ---- the lines of a text behind the line so far
+
+abbrev before : List ℕ → List (List ℕ) → List (List ℕ)
+before [] ls = ls
+before (b ∷ p) ls = onFirst b (before p ls)
+
+before-none : (p : List ℕ) → before p [] ≡ lastLine p
+before-none [] = refl
+before-none (b ∷ []) = refl
+before-none (b ∷ c ∷ p) = ap (onFirst b) (before-none (c ∷ p))
+
+before-line : (p : List ℕ) (ls : List (List ℕ)) → before p ([] ∷ ls) ≡ p ∷ ls
+before-line [] ls = refl
+before-line (b ∷ p) ls = ap (onFirst b) (before-line p ls)
+
+before-more : (p : List ℕ) (b : ℕ) (ls : List (List ℕ)) → before p (onFirst b ls) ≡ before (p ++ (b ∷ [])) ls
+before-more [] b ls = refl
+before-more (x ∷ p) b ls = ap (onFirst x) (before-more p b ls)
+
+-- ---- the theorem, from any line so far and any run
+
+pub text-full : (r : Run) (ls : List (List ℕ)) → ltb (r .lines) limit ≡ false → textOf r ls ≡ lastText r
+unfolding textOf
+text-full r [] e = refl
+text-full r (l ∷ ls) e = rw e
+
+text-line : (r : Run) (l : List ℕ) (ls : List (List ℕ)) → ltb (r .lines) limit ≡ true → textOf r (l ∷ ls) ≡ lineText r l ++ textOf (after r l) ls
+unfolding textOf
+text-line r l ls e = rw e
+
+text-cut : (r : Run) (p : List ℕ) → textOf r (lastLine (take 41 p)) ≡ textOf r (lastLine p)
+unfolding textOf lineText after
+text-cut r [] = refl
+text-cut r (b ∷ p) = rw (cut-result (r .tables) (b ∷ p))
+
+Whole : List ℕ → Type 0
+Whole t = (p : List ℕ) (r : Run) → says (mid (take 41 p) r) t ++ ends (fed (mid (take 41 p) r) t) ≡ textOf r (before p (linesOf t))
+
+whole-byte : (full feed : Bool) (b : ℕ) (t : List ℕ) (p : List ℕ) (r : Run) → ltb (r .lines) limit ≡ full → eqb b lineFeed ≡ feed → Whole t
+    → says (mid (take 41 p) r) (b ∷ t) ++ ends (fed (mid (take 41 p) r) (b ∷ t)) ≡ textOf r (before p (linesOf (b ∷ t)))
+unfolding Whole says said step fed linesOf lineText after
+whole-byte false feed b t p r e f ih = rw e (ih p r ∙ text-full r _ e ∙ sym (text-full r _ e))
+whole-byte true true b t p r e f ih =
+    rw (e, f, cut-result)
+    (append-assoc (lineText r p) _ _ ∙ ap (λ (x : List ℕ). lineText r p ++ x) (ih [] (after r p)) ∙ sym (text-line r p _ e)
+    ∙ ap (textOf r) (sym (before-line p (linesOf t))))
+whole-byte true false b t p r e f ih = rw (e, f, cut-more) (ih (p ++ (b ∷ [])) r ∙ ap (textOf r) (sym (before-more p b (linesOf t))))
+
+whole : (t : List ℕ) → Whole t
+unfolding Whole says fed linesOf ends
+whole [] = λ p r. text-cut r p ∙ ap (textOf r) (sym (before-none p))
+whole (b ∷ t) = λ p r. whole-byte (ltb (r .lines) limit) (eqb b lineFeed) b t p r refl refl (whole t)
+
+pub replays : (t : List ℕ) → says start t ++ ends (fed start t) ≡ replayText t
+unfolding replayText Whole
+replays t = whole t [] begun
+
+pub text-theorem : TextTheorem
+text-theorem ts = rw (says-joined start ts, fed-joined start ts) (replays (joined ts))

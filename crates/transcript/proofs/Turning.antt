@@ -1,0 +1,205 @@
+-- A turn: the bytes up to the next line feed, and what they make of the run.
+use mathlib.Core.Path.{_≡_, refl, sym, ap, ap₂, _∙_, subst}
+use mathlib.Core.Bool.{Bool, true, false, cond}
+use mathlib.Core.List.{List, [], _∷_, _++_, append-nil}
+use Prim.Native.Nat.{ℕ, zero, suc, _+_, _-_, _<_, _≤_}
+use native.Mathlib.Omega.{arith}
+use native.Mathlib.Numerals.{add-one}
+use borrow.Author.Tests.{ltb-true, lt-ltb, eqb-true, eq-eqb}
+use lib.Dec.{eqb, ltb}
+use lib.ListN.{length, take, drop, getD, length-take, length-drop}
+use lib.Seq.{take-add, drop-at, length-take-le, take-suc, append-snoc, take-all, getD-drop}
+use Rattle.script.specs.Fields.{upTo}
+use Rattle.script.specs.Lines.{lineOf}
+use Rattle.script.proofs.Cut.{take-upTo}
+use Rattle.detector.specs.Tables.{Tables}
+use Rattle.detector.specs.State.{tables}
+use Rattle.detector.specs.declared.state.Detector.{Detector}
+use Rattle.detector.specs.declared.reply.Answered.{Answered}
+use Rattle.answers.specs.Text.{Put}
+use Rattle.answers.specs.Answers.{reports, replyText, cyclesText, answerText, answerRoom}
+use Rattle.answers.specs.Reports.{reportsIn, Entry}
+use Rattle.detector.specs.declared.reply.Reply.{Reply}
+use Rattle.transcript.specs.Lines.{lineFeed}
+use Rattle.transcript.specs.Replay.{Run, Result, limit, lineResult, resultOf, resultText, after, lineText}
+use Rattle.transcript.specs.Chunks.{Mid, mid, step, said, fed, says}
+use Rattle.transcript.specs.Code.{Good, Results, runOf, Kept, Turns, between}
+use Rattle.transcript.specs.declared.run.Run as code
+use Rattle.transcript.specs.declared.answer.Told.{Told}
+use Rattle.script.specs.declared.line.Line.{Line}
+use Rattle.transcript.proofs.Text.{fed-append, says-append, cut-result, cut-more}
+
+-- ---- the bytes of a chunk from a place to the next line feed, and that line feed
+
+slice-at : (from k : ℕ) (l : List ℕ) → from ≤ length l → between from (from + k) l ≡ take k (drop from l)
+slice-at from k l h = ap (drop from) (take-add from k l) ∙ drop-at (take from l) (take k (drop from l)) from (length-take-le from l h)
+
+slice-cut : (from e : ℕ) (l : List ℕ) → from ≤ length l → from ≤ e → take (e - from) (drop from l) ≡ between from e l
+slice-cut from e l h k = let z : from + (e - from) ≡ e = omega arith in sym (slice-at from (e - from) l h) ∙ ap (λ (n : ℕ). between from n l) z
+
+pub piece : (from e : ℕ) (l : List ℕ) → from ≤ length l → e ≡ from + length (upTo lineFeed (drop from l)) → between from e l ≡ upTo lineFeed (drop from l)
+piece from e l h q = ap (λ (k : ℕ). between from k l) q ∙ slice-at from (length (upTo lineFeed (drop from l))) l h ∙ take-upTo lineFeed (drop from l)
+
+ends-pick : (t : Bool) (d b : ℕ) (y : List ℕ) → eqb b d ≡ t → (length (upTo d y) < length y → getD y (length (upTo d y)) 0 ≡ d)
+    → length (cond t [] (b ∷ upTo d y)) < suc (length y) → getD (b ∷ y) (length (cond t [] (b ∷ upTo d y))) 0 ≡ d
+ends-pick true d b y e ih h = eqb-true b d e
+ends-pick false d b y e ih h = ih (omega arith)
+
+-- what ends the part is the separator
+ends-with : (d : ℕ) (y : List ℕ) → length (upTo d y) < length y → getD y (length (upTo d y)) 0 ≡ d
+unfolding upTo
+ends-with d [] h = absurd (omega arith)
+ends-with d (b ∷ y) h = ends-pick (eqb b d) d b y refl (ends-with d y) h
+
+pub piece-feed : (from e : ℕ) (l : List ℕ) → from ≤ length l → e ≡ from + length (upTo lineFeed (drop from l)) → e < length l
+    → between from (e + 1) l ≡ upTo lineFeed (drop from l) ++ (lineFeed ∷ [])
+piece-feed from e l h q w =
+    let y = drop from l in
+    let k = length (upTo lineFeed y) in
+    let z : e + 1 ≡ from + suc k = omega arith in
+    let v : k < length y = omega (arith, length-drop from l) in
+    ap (λ (n : ℕ). between from n l) z ∙ slice-at from (suc k) l h ∙ take-suc y k 0 v
+    ∙ ap₂ (λ (p : List ℕ) (b : ℕ). p ++ (b ∷ [])) (take-upTo lineFeed y) (ends-with lineFeed y v)
+
+-- ---- a part without a line feed is carried
+
+step-carry : (p : List ℕ) (b : ℕ) (r : Run) → ltb (r .lines) limit ≡ true → eqb b lineFeed ≡ false → step (mid (take 41 p) r) b ≡ mid (take 41 (p ++ (b ∷ []))) r
+unfolding step
+step-carry p b r f e = rw (f, e) (ap (λ (z : List ℕ). mid z r) (cut-more p (b ∷ [])))
+
+fed-pick : (t : Bool) (b : ℕ) (y p : List ℕ) (r : Run) → eqb b lineFeed ≡ t → ltb (r .lines) limit ≡ true
+    → ((q : List ℕ) → fed (mid (take 41 q) r) (upTo lineFeed y) ≡ mid (take 41 (q ++ upTo lineFeed y)) r)
+    → fed (mid (take 41 p) r) (cond t [] (b ∷ upTo lineFeed y)) ≡ mid (take 41 (p ++ cond t [] (b ∷ upTo lineFeed y))) r
+unfolding fed
+fed-pick true b y p r e f ih = rw (append-nil p)
+fed-pick false b y p r e f ih = ap (λ (m : Mid). fed m (upTo lineFeed y)) (step-carry p b r f e) ∙ ih (p ++ (b ∷ [])) ∙ ap (λ (z : List ℕ). mid (take 41 z) r) (append-snoc p b (upTo lineFeed y))
+
+pub fed-part : (y p : List ℕ) (r : Run) → ltb (r .lines) limit ≡ true → fed (mid (take 41 p) r) (upTo lineFeed y) ≡ mid (take 41 (p ++ upTo lineFeed y)) r
+unfolding fed upTo
+fed-part [] p r f = rw (append-nil p)
+fed-part (b ∷ y) p r f = fed-pick (eqb b lineFeed) b y p r refl f (λ q. fed-part y q r f)
+
+says-pick : (t : Bool) (b : ℕ) (y : List ℕ) (m : Mid) → eqb b lineFeed ≡ t
+    → ((n : Mid) → says n (upTo lineFeed y) ≡ [])
+    → says m (cond t [] (b ∷ upTo lineFeed y)) ≡ []
+unfolding says said
+says-pick true b y m e ih = refl
+says-pick false b y m e ih = rw e (both (ltb (m .run .lines) limit))
+  where
+    both : (t : Bool) → cond t [] [] ++ says (step m b) (upTo lineFeed y) ≡ []
+    both true = ih (step m b)
+    both false = ih (step m b)
+
+pub says-part : (y : List ℕ) (m : Mid) → says m (upTo lineFeed y) ≡ []
+unfolding says upTo
+says-part [] m = refl
+says-part (b ∷ y) m = says-pick (eqb b lineFeed) b y m refl (says-part y)
+
+-- ---- a line feed ends the line
+
+after-cut : (r : Run) (p : List ℕ) → after r (take 41 p) ≡ after r p
+unfolding after
+after-cut r p = rw (cut-result (r .tables) p)
+
+text-cut : (r : Run) (p : List ℕ) → lineText r (take 41 p) ≡ lineText r p
+unfolding lineText
+text-cut r p = rw (cut-result (r .tables) p)
+
+fed-feed : (p : List ℕ) (r : Run) → ltb (r .lines) limit ≡ true → fed (mid (take 41 p) r) (lineFeed ∷ []) ≡ mid [] (after r p)
+unfolding fed step
+fed-feed p r f = rw f (ap (mid []) (after-cut r p))
+
+says-feed : (p : List ℕ) (r : Run) → ltb (r .lines) limit ≡ true → says (mid (take 41 p) r) (lineFeed ∷ []) ≡ lineText r p
+unfolding says said
+says-feed p r f = rw f (append-nil (lineText r (take 41 p)) ∙ text-cut r p)
+
+module _ (have : ℕ) (carry : List ℕ) (r : Run) (small : have ≤ 41) (more : r .lines < limit) where
+  -- what is carried is no longer than 41
+  carried : take 41 (take have carry) ≡ take have carry
+  carried = take-all 41 (take have carry) (omega (arith, length-take have carry))
+
+  free : ltb (r .lines) limit ≡ true
+  free = lt-ltb (r .lines) limit more
+
+  module _ (chunk : List ℕ) (from e : ℕ) (inside : from ≤ length chunk) (found : e ≡ from + length (upTo lineFeed (drop from chunk))) where
+    abbrev part : List ℕ
+    part = between from e chunk
+
+    pub part-fed : fed (mid (take have carry) r) part ≡ mid (take 41 (take have carry ++ part)) r
+    part-fed =
+        subst (λ (q : List ℕ). fed (mid (take have carry) r) q ≡ mid (take 41 (take have carry ++ q)) r) (sym (piece from e chunk inside found))
+        (subst (λ (p : List ℕ). fed (mid p r) (upTo lineFeed (drop from chunk)) ≡ mid (take 41 (take have carry ++ upTo lineFeed (drop from chunk))) r) carried
+        (fed-part (drop from chunk) (take have carry) r free))
+
+    pub part-says : says (mid (take have carry) r) part ≡ []
+    part-says = ap (says (mid (take have carry) r)) (piece from e chunk inside found) ∙ says-part (drop from chunk) (mid (take have carry) r)
+
+    whole : e < length chunk → between from (e + 1) chunk ≡ part ++ (lineFeed ∷ [])
+    whole w = piece-feed from e chunk inside found w ∙ ap (λ (q : List ℕ). q ++ (lineFeed ∷ [])) (sym (piece from e chunk inside found))
+
+    pub line-fed : e < length chunk → fed (mid (take have carry) r) (between from (e + 1) chunk) ≡ mid [] (after r (take have carry ++ part))
+    line-fed w =
+        ap (fed (mid (take have carry) r)) (whole w) ∙ fed-append (mid (take have carry) r) part (lineFeed ∷ [])
+        ∙ ap (λ (m : Mid). fed m (lineFeed ∷ [])) part-fed ∙ fed-feed (take have carry ++ part) r free
+
+    pub line-says : e < length chunk → says (mid (take have carry) r) (between from (e + 1) chunk) ≡ lineText r (take have carry ++ part)
+    line-says w =
+        ap (says (mid (take have carry) r)) (whole w) ∙ says-append (mid (take have carry) r) part (lineFeed ∷ [])
+        ∙ ap (λ (t : List ℕ). t ++ says (fed (mid (take have carry) r) part) (lineFeed ∷ [])) part-says
+        ∙ ap (λ (m : Mid). says m (lineFeed ∷ [])) part-fed ∙ says-feed (take have carry ++ part) r free
+
+-- ---- the line's answer
+
+pub answer-result : (n : ℕ) (y : Answered) (b : List ℕ) (a : Result) → Results y b a → answerText n (y .reply) b ≡ resultText n a
+unfolding answerText
+answer-result n y b a h = ap₂ (λ (q : Reply) (c : List (List Entry)). replyText n q ++ cyclesText c) (h .reply) (h .cycles)
+
+pub after-line : (r : Run) (l : List ℕ) (x : Tables) (n : ℕ) → n ≡ r .lines + 1 → x ≡ lineResult (r .tables) (lineOf l) .tables → mid [] (record { lines = n; tables = x }) ≡ mid [] (after r l)
+unfolding after resultOf
+after-line r l x n e f = ap₂ (λ (m : ℕ) (y : Tables). mid [] (record { lines = m; tables = y })) e f
+
+pub text-line : (r : Run) (l : List ℕ) (n : ℕ) → n ≡ r .lines + 1 → resultText n (lineResult (r .tables) (lineOf l)) ≡ lineText r l
+unfolding lineText resultOf
+text-line r l n e = ap (λ (m : ℕ). resultText m (lineResult (r .tables) (lineOf l))) e
+
+-- ---- the turn's promise
+
+-- the chunk ends before the line does
+pub carried-turn : (r : code.Run) (carry carry′ chunk out : List ℕ) (from e at h : ℕ) → Kept r carry → r .lines < limit → from < length chunk
+    → (e ≡ from + length (upTo lineFeed (drop from chunk))) × (e ≤ length chunk) → e ≡ length chunk → length carry′ ≡ length carry
+    → (h ≤ 41) × (take h carry′ ≡ take 41 (take (r .have) carry ++ take (e - from) (drop from chunk)))
+    → Turns r carry chunk from out at (record { run = record { detector = r .detector; lines = r .lines; have = h }; next = e; at = at }) carry′ out
+carried-turn r carry carry′ chunk out from e at h k n i f q w p =
+    let j : from ≤ length chunk = omega arith in
+    record {
+      kept = record { good = k .good; lines = k .lines; have = p .0; long = w ∙ k .long };
+      onward = omega arith;
+      inside = f .1;
+      after = ap (λ (z : List ℕ). mid z (runOf r)) (p .1 ∙ ap (λ (z : List ℕ). take 41 (take (r .have) carry ++ z)) (slice-cut from e chunk j (omega (arith, f .0)))) ∙ sym (part-fed (r .have) carry (runOf r) (k .have) n chunk from e j (f .0));
+      text = subst (λ (z : List ℕ). Put out at z out at) (sym (part-says (r .have) carry (runOf r) (k .have) n chunk from e j (f .0))) (record { bytes = refl; place = omega arith });
+      place = omega arith;
+    }
+
+-- the line ends in the chunk
+pub line-turn : (r : code.Run) (carry carry′ chunk out out′ : List ℕ) (from e at : ℕ) (t : Told) (l : Line) → Kept r carry → r .lines < limit → from < length chunk
+    → (e ≡ from + length (upTo lineFeed (drop from chunk))) × (e ≤ length chunk) → (e ≡ length chunk → ⊥) → length carry′ ≡ length carry
+    → l ≡ lineOf (take (r .have) carry ++ take (e - from) (drop from chunk))
+    → Good (t .detector) × (tables (t .detector) ≡ lineResult (tables (r .detector)) l .tables) × Put out at (resultText (r .lines + 1) (lineResult (tables (r .detector)) l)) out′ (t .at) × (t .at ≤ at + answerRoom)
+    → Turns r carry chunk from out at (record { run = record { detector = t .detector; lines = r .lines + 1; have = 0 }; next = e + 1; at = t .at }) carry′ out′
+line-turn r carry carry′ chunk out out′ from e at t l k n i f q w c p =
+    let j : from ≤ length chunk = omega arith in
+    let d : l ≡ lineOf (take (r .have) carry ++ between from e chunk) = c ∙ ap (λ (z : List ℕ). lineOf (take (r .have) carry ++ z)) (slice-cut from e chunk j (omega (arith, f .0))) in
+    let b : e < length chunk = omega arith in
+    let line : List ℕ = take (r .have) carry ++ between from e chunk in
+    record {
+      kept = record { good = p .0; lines = omega arith; have = omega arith; long = w ∙ k .long };
+      onward = omega arith;
+      inside = omega arith;
+      after = after-line (runOf r) line (tables (t .detector)) (r .lines + 1) refl (p .1 ∙ ap (λ (z : Line). lineResult (tables (r .detector)) z .tables) d)
+          ∙ sym (line-fed (r .have) carry (runOf r) (k .have) n chunk from e j (f .0) b);
+      text = subst (λ (z : List ℕ). Put out at z out′ (t .at))
+          (ap (λ (z : Line). resultText (r .lines + 1) (lineResult (tables (r .detector)) z)) d ∙ text-line (runOf r) line (r .lines + 1) refl
+          ∙ sym (line-says (r .have) carry (runOf r) (k .have) n chunk from e j (f .0) b))
+          (p .2);
+      place = p .3;
+    }

@@ -1,0 +1,44 @@
+use Rattle.detector.specs.State.{tables}
+use Rattle.transcript.proofs.Feeding.{sums-text}
+use Rattle.answers.proofs.Bounds.{end-room, end-bound}
+use borrow.Author.Needs.{needs}
+use mathlib.Core.Path.{_≡_, refl, sym, ap, _∙_}
+use mathlib.Core.Logic.{⊎-elim}
+use mathlib.Core.Bool.{Bool, true, false}
+use Prim.Native.Nat.{ℕ, suc, _+_, _*_, _-_, _<_, _≤_, _^_}
+use native.Mathlib.Omega.{arith}
+use lib.ListN.{length, length-set, getD, set, take, drop}
+use borrow.Author.Tests.{eq-eqb, ne-eqb, lt-ltb, le-ltb}
+use Rattle.transcript.proofs.ending.put_sums.Statement.{statement}
+use Rattle.transcript.proofs.ending.put_sums.Tie as tie
+
+edges-stored-requires : tie.Need-edges-stored-requires
+edges-stored-requires c κs = search needs
+
+stuck-requires : tie.Need-stuck-requires
+stuck-requires c κs = search needs
+
+put-end-requires : tie.Need-put-end-requires
+put-end-requires c κs =
+    let s = c .before .before .before .before in
+    let e : c .before .before .edges-stored .result < 2 ^ 64 = search needs in
+    let k : c .before .stuck .result < 2 ^ 64 = search needs in
+    end-room _ _ _ _ _ (omega (arith, s .pre .1)) e k (s .pre .2)
+
+same-length : tie.Need-same-length
+same-length c = search needs
+
+returns : tie.Need-returns
+returns c =
+    let s = c .before .before .before .before .before .before .before in
+    let p = c .before .before .put-end .ensures in
+    let d = c .before .before .before .before .before .edges-stored in
+    let t = c .before .before .before .before .stuck in
+    let e : d .result < 2 ^ 64 = search needs in
+    let k : t .result < 2 ^ 64 = search needs in
+    let w = end-bound (s .args .lines) (d .result) (t .result) (omega (arith, s .pre .1)) e k in
+    (rw (← sums-text (s .args .lines) (d .result) (t .result) (tables (s .args .detector)) (d .ensures) (t .ensures)) p, omega (arith, p .place, w))
+
+pub put-sums-spec : {M : Type 1} → statement M
+put-sums-spec =
+    tie.close (tie.spec edges-stored-requires stuck-requires put-end-requires same-length returns)

@@ -1,0 +1,76 @@
+-- What the calls promise: the code's run means a middle of the text, and each turn is a step of it.
+use mathlib.Core.Path.{_≡_}
+use mathlib.Core.List.{List}
+use Prim.Native.Nat.{ℕ, _+_, _<_, _≤_}
+use lib.ListN.{length, take, drop}
+use lib.Seq.{sets}
+use Rattle.detector.specs.State.{tables, Valid}
+use Rattle.detector.specs.declared.state.Detector.{Detector}
+use Rattle.detector.specs.declared.reply.Answered.{Answered}
+use Rattle.demands.specs.Reached.{Reached}
+use Rattle.answers.specs.Text.{Put}
+use Rattle.answers.specs.Reports.{reportsIn, reportsSize}
+use Rattle.answers.specs.Answers.{reports, number, answerRoom}
+use Rattle.transcript.specs.Replay.{Result, room, limit, begun}
+use Rattle.transcript.specs.Replay as replay
+use Rattle.transcript.specs.Chunks.{Mid, mid, fed, says}
+use Rattle.transcript.specs.declared.run.Run.{Run}
+use Rattle.transcript.specs.declared.run.Turned.{Turned}
+
+-- a state of a run: valid, and reached from the empty state
+pub record Good (d : Detector) : Type 0 where
+  pub valid : Valid d
+  pub reached : Reached (tables d)
+
+-- what is returned, with the reports in the buffer b, is the result a
+pub record Results (r : Answered) (b : List ℕ) (a : Result) : Type 0 where
+  pub good : Good (r .detector)
+  pub state : tables (r .detector) ≡ a .tables
+  pub reply : r .reply ≡ a .reply
+  pub cycles : reportsIn (reports (r .reply)) b ≡ a .cycles
+  pub held : reportsSize (reports (r .reply)) b ≤ room
+  pub few : reports (r .reply) ≤ 32
+  pub small : number (r .reply) < 256
+
+-- MEANING: the line so far stands in the carry
+abbrev pub runOf : Run → replay.Run
+runOf r = record { lines = r .lines; tables = tables (r .detector) }
+
+abbrev pub midOf : Run → List ℕ → Mid
+midOf r carry = mid (take (r .have) carry) (runOf r)
+
+-- before the first line
+pub record Begins (r : Run) : Type 0 where
+  pub good : Good (r .detector)
+  pub run : runOf r ≡ begun
+  pub have : r .have ≡ 0
+
+pub record Kept (r : Run) (carry : List ℕ) : Type 0 where
+  pub good : Good (r .detector)
+  pub lines : r .lines ≤ limit
+  pub have : r .have ≤ 41
+  pub long : length carry ≡ 41
+
+-- the bytes of a chunk from one place to another
+abbrev pub between : ℕ → ℕ → List ℕ → List ℕ
+between from to c = drop from (take to c)
+
+-- A TURN: from the run r to the run t .run over the bytes of the chunk up to t .next, of which at least one; and what is
+-- printed for them
+pub record Turns (r : Run) (carry chunk : List ℕ) (from : ℕ) (out : List ℕ) (at : ℕ) (t : Turned) (carry′ out′ : List ℕ) : Type 0 where
+  pub kept : Kept (t .run) carry′
+  pub onward : from < t .next
+  pub inside : t .next ≤ length chunk
+  pub after : midOf (t .run) carry′ ≡ fed (midOf r carry) (between from (t .next) chunk)
+  pub text : Put out at (says (midOf r carry) (between from (t .next) chunk)) out′ (t .at)
+  pub place : t .at ≤ at + answerRoom
+
+-- TURNS, one after the other, up to the chunk's end, the last line that is read, or where the longest answer has no room
+pub record Feeds (r : Run) (carry chunk : List ℕ) (from : ℕ) (out : List ℕ) (at : ℕ) (t : Turned) (carry′ out′ : List ℕ) : Type 0 where
+  pub kept : Kept (t .run) carry′
+  pub onward : from ≤ t .next
+  pub inside : t .next ≤ length chunk
+  pub after : midOf (t .run) carry′ ≡ fed (midOf r carry) (between from (t .next) chunk)
+  pub text : Put out at (says (midOf r carry) (between from (t .next) chunk)) out′ (t .at)
+  pub place : t .at ≤ length out
+  pub stops : t .next < length chunk → t .run .lines < limit → length out < t .at + answerRoom

@@ -1,0 +1,5 @@
+-- A script as a text, what replay prints for it, and the same in chunks.
+pub mod Lines
+pub mod Replay
+pub mod Chunks
+pub mod Code

@@ -1,0 +1,15 @@
+-- The lines of a text: each ends with its line feed, the last may lack it, and "nothing behind the last line feed is no line".
+use Prim.Native.Nat.{ℕ}
+use Prim.Native.Char.{code}
+use mathlib.Core.Bool.{cond}
+use mathlib.Core.List.{List, [], _∷_}
+use lib.Dec.{eqb}
+use Rattle.script.specs.Fields.{onFirst}
+
+abbrev pub lineFeed : ℕ
+lineFeed = code "\n"
+
+-- a byte stands at the front of the first line behind it, and is a line of its own where there is none
+unfoldable pub linesOf : List ℕ → List (List ℕ)
+linesOf [] = []
+linesOf (b ∷ t) = cond (eqb b lineFeed) ([] ∷ linesOf t) (onFirst b (linesOf t))

@@ -1,0 +1,14 @@
+// Text in chunks to text: the line that is not whole yet is carried, and each whole line is answered.
+mod answer;
+mod ending;
+mod lines;
+mod run;
+
+pub use ending::LAST_ROOM;
+pub use ending::finish;
+pub use lines::CARRY;
+pub use run::LIMIT;
+pub use run::Run;
+pub use run::Turned;
+pub use run::begin;
+pub use run::feed;
