@@ -2,10 +2,10 @@
 use mathlib.Core.Path.{_≡_, refl, sym, ap, ap₂, _∙_, subst}
 use mathlib.Core.Bool.{Bool, true, false, cond}
 use mathlib.Core.List.{List, [], _∷_, _++_, map}
-use Prim.Native.Nat.{ℕ, zero, suc, _+_, _<_, _≤_, _^_}
+use Prim.Native.Nat.{ℕ, zero, suc, _+_, _<_, _≤_}
 use native.Mathlib.Omega.{arith}
 use lib.Dec.{eqb, ltb}
-use lib.ListN.{length, take, drop, getD, length-map}
+use lib.ListN.{length, drop, length-map}
 use lib.Seq.{sets-eq}
 use Rattle.waits.specs.Report.{Report, written, bytesOf, entries}
 use Rattle.waits.specs.Code.{laid}
@@ -15,8 +15,8 @@ use Rattle.waits.specs.declared.outcome.Tried.the-variants.{Taken, Missed}
 use Rattle.waits.specs.Owners.{countOf}
 use Rattle.detector.specs.Tables.{Tables, Answer, queueOf}
 use Rattle.detector.specs.Events.{apply}
-use Rattle.detector.specs.Refusals.{Numbers, numbersOf, outside, full, refusal}
-use Rattle.detector.specs.State.{tables, Valid, Does, Answers}
+use Rattle.detector.specs.Refusals.{numbersOf, outside, full, refusal}
+use Rattle.detector.specs.State.{tables, Does, Answers}
 use Rattle.detector.specs.declared.event.Event.{Event}
 use Rattle.detector.specs.declared.event.Event.the-variants.{MutexAttempt, MutexAcquired, MutexReleased, MutexExit, RwReadAttempt, RwReadAcquired, RwReadTry, RwReadReleased, RwWriteAttempt, RwWriteAcquired, RwWriteReleased, RwExit, CondvarSpawn, CondvarExit, CondvarWaitBegin, CondvarNotifyOne, CondvarNotifyAll, CondvarWaitEnd}
 use Rattle.detector.specs.declared.state.Detector.{Detector}
@@ -28,10 +28,10 @@ use Rattle.demands.specs.Invariants.{most}
 use Rattle.demands.proofs.Events.{served}
 use Rattle.demands.proofs.Invariants.{reached-few, reached-room, most-32}
 use Rattle.demands.proofs.Demands.{reached-next}
-use Rattle.answers.specs.Reports.{Entry, reportsIn, reportsSize, entriesBytes, reportsBytes}
+use Rattle.answers.specs.Reports.{reportsIn, reportsSize, entriesBytes, reportsBytes}
 use Rattle.answers.specs.Answers.{reports}
 use Rattle.answers.proofs.Laid.{reports-read, reports-size}
-use Rattle.transcript.specs.Replay.{room, itemOf, itemsOf, Result, refused, eventResult}
+use Rattle.transcript.specs.Replay.{room, itemOf, itemsOf, refused, eventResult}
 use Rattle.transcript.specs.Code.{Good, Results}
 
 -- ---- the bytes of reports are those of their items

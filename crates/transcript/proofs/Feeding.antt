@@ -1,8 +1,8 @@
 -- Turns one after the other, and the text's end.
 use mathlib.Core.Path.{_≡_, refl, sym, ap, ap₂, _∙_, subst}
-use mathlib.Core.Bool.{Bool, true, false}
+use mathlib.Core.Bool.{true}
 use mathlib.Core.List.{List, [], _∷_, _++_, append-nil}
-use Prim.Native.Nat.{ℕ, zero, suc, _+_, _-_, _<_, _≤_}
+use Prim.Native.Nat.{ℕ, _+_, _<_, _≤_}
 use native.Mathlib.Omega.{arith}
 use borrow.Author.Tests.{lt-ltb, le-ltb}
 use lib.Dec.{ltb}
@@ -10,15 +10,14 @@ use lib.ListN.{length, take, drop, length-take, take-append-drop}
 use lib.Seq.{slice-empty, take-take, drop-append-le, length-take-le}
 use Rattle.answers.specs.Text.{Put}
 use Rattle.answers.specs.Answers.{answerRoom, endRoom, endText}
-use Rattle.answers.proofs.Puts.{then, put-length}
+use Rattle.answers.proofs.Puts.{then}
 use native.Mathlib.Decide.{ℕ-discrete}
 use Rattle.detector.specs.Tables.{Tables, empty}
 use Rattle.detector.specs.State.{tables, Valid}
 use Rattle.detector.specs.declared.state.Detector.{Detector}
-use Rattle.demands.specs.Reached.{after as reach}
 use Rattle.detector.specs.Stuck.{stuckCount, edgeCount}
 use Rattle.transcript.specs.Lines.{lineFeed}
-use Rattle.transcript.specs.Replay.{Run, limit, lineText, lastText, after, textOf}
+use Rattle.transcript.specs.Replay.{Run, limit, lastText, after, textOf}
 use Rattle.transcript.specs.Chunks.{Mid, mid, step, said, fed, says, ends, lastLine}
 use Rattle.transcript.specs.Code.{runOf, midOf, Begins, Kept, between, Turns, Feeds}
 use Rattle.transcript.specs.declared.run.Run as code

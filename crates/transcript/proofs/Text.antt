@@ -1,15 +1,14 @@
 -- THE TEXT THEOREM: the text in whatever chunks prints what the definition says of it.
 use mathlib.Core.Path.{_≡_, refl, sym, ap, _∙_}
-use mathlib.Core.Bool.{Bool, true, false, cond}
-use mathlib.Core.List.{List, [], _∷_, _++_, append-assoc, append-nil}
-use Prim.Native.Nat.{ℕ, _<_, _≤_}
+use mathlib.Core.Bool.{Bool, true, false}
+use mathlib.Core.List.{List, [], _∷_, _++_, append-assoc}
+use Prim.Native.Nat.{ℕ, _<_}
 use native.Mathlib.Omega.{arith}
 use borrow.Author.Tests.{leb-true, leb-false}
 use lib.Dec.{eqb, ltb, leb}
-use lib.ListN.{length, take, length-append, length-take}
-use lib.Seq.{take-all, take-append-le, take-take, append-snoc}
+use lib.ListN.{length, take, length-take}
+use lib.Seq.{take-all, take-append-le, take-take}
 use Rattle.script.specs.Fields.{onFirst}
-use Rattle.script.specs.Lines.{lineOf}
 use Rattle.script.proofs.Steps.{line-cut}
 use Rattle.detector.specs.Tables.{Tables}
 use Rattle.transcript.specs.Lines.{lineFeed, linesOf}

@@ -2,23 +2,21 @@
 use mathlib.Core.Path.{_≡_, refl, sym, ap, ap₂, _∙_, subst}
 use mathlib.Core.Bool.{Bool, true, false, cond}
 use mathlib.Core.List.{List, [], _∷_, _++_, append-nil}
-use Prim.Native.Nat.{ℕ, zero, suc, _+_, _-_, _<_, _≤_}
+use Prim.Native.Nat.{ℕ, suc, _+_, _-_, _<_, _≤_}
 use native.Mathlib.Omega.{arith}
-use native.Mathlib.Numerals.{add-one}
-use borrow.Author.Tests.{ltb-true, lt-ltb, eqb-true, eq-eqb}
+use borrow.Author.Tests.{lt-ltb, eqb-true}
 use lib.Dec.{eqb, ltb}
 use lib.ListN.{length, take, drop, getD, length-take, length-drop}
-use lib.Seq.{take-add, drop-at, length-take-le, take-suc, append-snoc, take-all, getD-drop}
+use lib.Seq.{take-add, drop-at, length-take-le, take-suc, append-snoc, take-all}
 use Rattle.script.specs.Fields.{upTo}
 use Rattle.script.specs.Lines.{lineOf}
 use Rattle.script.proofs.Cut.{take-upTo}
 use Rattle.detector.specs.Tables.{Tables}
 use Rattle.detector.specs.State.{tables}
-use Rattle.detector.specs.declared.state.Detector.{Detector}
 use Rattle.detector.specs.declared.reply.Answered.{Answered}
 use Rattle.answers.specs.Text.{Put}
-use Rattle.answers.specs.Answers.{reports, replyText, cyclesText, answerText, answerRoom}
-use Rattle.answers.specs.Reports.{reportsIn, Entry}
+use Rattle.answers.specs.Answers.{replyText, cyclesText, answerText, answerRoom}
+use Rattle.answers.specs.Reports.{Entry}
 use Rattle.detector.specs.declared.reply.Reply.{Reply}
 use Rattle.transcript.specs.Lines.{lineFeed}
 use Rattle.transcript.specs.Replay.{Run, Result, limit, lineResult, resultOf, resultText, after, lineText}

@@ -2,13 +2,8 @@ use Rattle.detector.specs.State.{tables}
 use Rattle.transcript.proofs.Feeding.{sums-text}
 use Rattle.answers.proofs.Bounds.{end-room, end-bound}
 use borrow.Author.Needs.{needs}
-use mathlib.Core.Path.{_≡_, refl, sym, ap, _∙_}
-use mathlib.Core.Logic.{⊎-elim}
-use mathlib.Core.Bool.{Bool, true, false}
-use Prim.Native.Nat.{ℕ, suc, _+_, _*_, _-_, _<_, _≤_, _^_}
+use Prim.Native.Nat.{_<_, _^_}
 use native.Mathlib.Omega.{arith}
-use lib.ListN.{length, length-set, getD, set, take, drop}
-use borrow.Author.Tests.{eq-eqb, ne-eqb, lt-ltb, le-ltb}
 use Rattle.transcript.proofs.ending.put_sums.Statement.{statement}
 use Rattle.transcript.proofs.ending.put_sums.Tie as tie
 

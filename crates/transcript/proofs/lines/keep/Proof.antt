@@ -1,13 +1,10 @@
 use Rattle.transcript.proofs.Carry.{kept-all, kept-full, kept-more}
 use mathlib.Core.List.{_++_}
 use borrow.Author.Needs.{needs}
-use mathlib.Core.Path.{_≡_, refl, sym, ap, _∙_}
-use mathlib.Core.Logic.{⊎-elim}
-use mathlib.Core.Bool.{Bool, true, false}
-use Prim.Native.Nat.{ℕ, suc, _+_, _*_, _-_, _<_, _≤_, _^_}
+use mathlib.Core.Path.{_≡_, refl, ap, _∙_}
+use Prim.Native.Nat.{_-_, _<_, _≤_}
 use native.Mathlib.Omega.{arith}
-use lib.ListN.{length, length-set, getD, set, take, drop}
-use borrow.Author.Tests.{eq-eqb, ne-eqb, lt-ltb, le-ltb}
+use lib.ListN.{length, length-set, take, drop}
 use Rattle.transcript.proofs.lines.keep.Statement.{statement}
 use Rattle.transcript.proofs.lines.keep.Tie as tie
 

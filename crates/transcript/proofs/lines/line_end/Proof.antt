@@ -2,13 +2,10 @@ use Rattle.transcript.specs.Lines.{lineFeed}
 use Rattle.script.specs.Fields.{upTo}
 use Rattle.script.proofs.Cut.{upTo-here, upTo-on, upTo-short}
 use borrow.Author.Needs.{needs}
-use mathlib.Core.Path.{_≡_, refl, sym, ap, _∙_}
-use mathlib.Core.Logic.{⊎-elim}
-use mathlib.Core.Bool.{Bool, true, false}
-use Prim.Native.Nat.{ℕ, suc, _+_, _*_, _-_, _<_, _≤_, _^_}
+use mathlib.Core.Path.{_≡_, ap}
+use Prim.Native.Nat.{_+_, _-_, _≤_}
 use native.Mathlib.Omega.{arith}
-use lib.ListN.{length, length-set, getD, set, take, drop, length-drop}
-use borrow.Author.Tests.{eq-eqb, ne-eqb, lt-ltb, le-ltb}
+use lib.ListN.{length, drop, length-drop}
 use Rattle.transcript.proofs.lines.line_end.Statement.{statement}
 use Rattle.transcript.proofs.lines.line_end.Tie as tie
 

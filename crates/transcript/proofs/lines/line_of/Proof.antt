@@ -1,13 +1,8 @@
 use lib.Seq.{length-take-le}
 use Rattle.transcript.proofs.Carry.{kept-line}
 use borrow.Author.Needs.{needs}
-use mathlib.Core.Path.{_≡_, refl, sym, ap, _∙_}
-use mathlib.Core.Logic.{⊎-elim}
-use mathlib.Core.Bool.{Bool, true, false}
-use Prim.Native.Nat.{ℕ, suc, _+_, _*_, _-_, _<_, _≤_, _^_}
+use mathlib.Core.Path.{sym, _∙_}
 use native.Mathlib.Omega.{arith}
-use lib.ListN.{length, length-set, getD, set, take, drop, length-take}
-use borrow.Author.Tests.{eq-eqb, ne-eqb, lt-ltb, le-ltb}
 use Rattle.transcript.proofs.lines.line_of.Statement.{statement}
 use Rattle.transcript.proofs.lines.line_of.Tie as tie
 

@@ -1,15 +1,10 @@
-use Rattle.answers.proofs.Puts.{put-length}
 use Rattle.transcript.proofs.Feeding.{Going, going-none, going-turn, going-done}
-use Rattle.transcript.specs.Replay.{room, limit}
-use Rattle.transcript.specs.Code.{midOf, Kept}
-use borrow.Author.Needs.{needs}
-use mathlib.Core.Path.{_≡_, refl, sym, ap, _∙_}
-use mathlib.Core.Logic.{⊎-elim}
-use mathlib.Core.Bool.{Bool, true, false}
-use Prim.Native.Nat.{ℕ, suc, _+_, _*_, _-_, _<_, _≤_, _^_}
+use Rattle.transcript.specs.Replay.{room}
+use Rattle.transcript.specs.Code.{midOf}
+use mathlib.Core.Path.{_≡_, refl, _∙_}
+use Prim.Native.Nat.{_-_}
 use native.Mathlib.Omega.{arith}
-use lib.ListN.{length, length-set, getD, set, take, drop}
-use borrow.Author.Tests.{eq-eqb, ne-eqb, lt-ltb, le-ltb}
+use lib.ListN.{length}
 use Rattle.transcript.proofs.run.feed.Statement.{statement}
 use Rattle.transcript.proofs.run.feed.Tie as tie
 
