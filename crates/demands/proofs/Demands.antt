@@ -27,21 +27,22 @@ use Rattle.detector.specs.declared.reply.Reply.the-variants.{Refused}
 use Rattle.demands.specs.Reached.{answer, room, after, Reached}
 use Rattle.demands.specs.Feeds.{Call, Back, Feeds, none, next, Starts}
 use Rattle.demands.specs.Demand1.{AllAnswered, EachAnswered, RefusedByNumber}
-use Rattle.demands.specs.Demand2.{replied, onward, backs, ends, NoTwo, FedAsRuled, Coincide}
+use Rattle.demands.specs.Demand2.{replied, onward, backs, ends, NoTwo, FedAsRuled, Coincide, StepsCoincide}
 use Rattle.demands.specs.Demand3.{ReportsTrue, Converse, MutexConverse, RwConverse, Attempted, Called, CalledHalf}
 use Rattle.demands.proofs.Events.{accepted-full, served, unserved}
 use Rattle.demands.proofs.Invariants.{first-half}
 use Rattle.demands.proofs.Exact.{second-half}
 use Rattle.detector.proofs.Validity.{valid-tested}
+use Rattle.detector.proofs.SameState.{same-state}
 
 -- ---- DEMAND 1
 
 pub all-answered : AllAnswered
-all-answered step d [] = ([], d, none)
-all-answered step d (k ∷ ks) =
-    let s = step d (k .event) (k .lent) in
-    let f = all-answered step (s .0 .detector) ks in
-    (record { reply = s .0 .reply; buffer = s .1 } ∷ f .0, f .1, next (s .2) (f .2))
+all-answered T C step d h [] c = ([], d, none, h)
+all-answered T C step d h (k ∷ ks) c =
+    let s = step d k h (c .0) in
+    let f = all-answered T C step (s .0 .detector) (s .3) ks (c .1) in
+    (record { reply = s .0 .reply; buffer = s .1 } ∷ f .0, f .1, next (s .2) (f .2), f .3)
 
 pub each-answered : EachAnswered
 each-answered d e ks bs f = go f
@@ -215,6 +216,22 @@ coincide d e d′ e′ ks bs bs′ s f s′ f′ =
     let n = as-ruled d e ks bs s f in
     let m = as-ruled d′ e′ ks bs′ s′ f′ in
     (n .answers ∙ sym (m .answers), n .tables ∙ sym (m .tables))
+
+pub steps-coincide : StepsCoincide
+steps-coincide d ev r q b e f lr lq s t = go (refusalOf d (length b) ev) refl
+  where
+    go : (n : ℕ) → refusalOf d (length b) ev ≡ n → (r ≡ q) × (e ≡ f)
+    go zero z =
+        let x = s .served z in
+        let y = t .served z in (
+          ap₂ (λ (c : Detector) (p : Reply). record { detector = c; reply = p })
+              (same-state (r .detector) (q .detector) (x .1 .valid) (y .1 .valid) lr lq (x .1 .state ∙ sym (y .1 .state))) (x .0 ∙ sym (y .0)),
+          x .1 .bytes ∙ sym (y .1 .bytes),
+        )
+    go (suc n) z =
+        let x = s .refused (omega (arith, z)) in
+        let y = t .refused (omega (arith, z)) in
+        (x .0 ∙ sym (y .0), x .1 ∙ sym (y .1))
 
 -- the state that is fed so is a reached one
 fed-reached : (d₀ d : Detector) (ks : List Call) (bs : List Back) → Starts d₀ → Feeds d₀ ks bs d → Reached (tables d)

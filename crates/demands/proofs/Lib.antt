@@ -9,5 +9,6 @@ pub mod Events
 pub mod Invariants
 -- demand 3: second-half
 pub mod Exact
--- demand 1: all-answered, each-answered, refused-by-number; demand 2: as-ruled, coincide; demand 3: reports-true, converse
+-- demand 1: all-answered, each-answered, refused-by-number; demand 2: as-ruled, coincide, steps-coincide; demand 3:
+-- reports-true, converse
 pub mod Demands

@@ -2,7 +2,7 @@
 -- number, and then the state and the report buffer hold what they held.
 -- Here it is said of events; of script texts, where texts are read.
 use mathlib.Core.Path.{_≡_}
-use mathlib.Core.List.{List}
+use mathlib.Core.List.{List, [], _∷_}
 use Prim.Native.Nat.{ℕ, _<_}
 use lib.ListN.{length}
 use Rattle.detector.specs.State.{refusalOf, refusedBy, Steps}
@@ -11,13 +11,20 @@ use Rattle.detector.specs.declared.state.Detector.{Detector}
 use Rattle.detector.specs.declared.reply.Answered.{Answered}
 use Rattle.demands.specs.Feeds.{Call, Back, Feeds}
 
--- a step that ends and keeps its promise, for any state, any event and any buffer
-abbrev pub Entry : Type 0
-Entry = (d : Detector) (ev : Event) (b : List ℕ) → (r : Answered) × (e : List ℕ) × Steps d ev r b e
+-- a step that ends and keeps its promise, for the states T and the calls C that the code's types hold. Over every record
+-- none could: one with more entries than its type holds passes the test for ranges and cannot be served.
+abbrev pub Entry : (Detector → Type 0) → (Call → Type 0) → Type 0
+Entry T C = (d : Detector) (k : Call) → T d → C k → (r : Answered) × (e : List ℕ) × Steps d (k .event) r (k .lent) e × T (r .detector)
+
+abbrev pub AllOf : (Call → Type 0) → List Call → Type 0
+AllOf C [] = Unit
+AllOf C (k ∷ ks) = C k × AllOf C ks
 
 -- AN ANSWER AND AN END (`all-answered`, `each-answered`): any events lead from any state to a state, with an answer each
-abbrev pub AllAnswered : Type 0
-AllAnswered = Entry → (d : Detector) (ks : List Call) → (bs : List Back) × (e : Detector) × Feeds d ks bs e
+abbrev pub AllAnswered : Type 1
+AllAnswered =
+    (T : Detector → Type 0) (C : Call → Type 0) → Entry T C → (d : Detector) → T d → (ks : List Call) → AllOf C ks
+    → (bs : List Back) × (e : Detector) × Feeds d ks bs e × T e
 
 abbrev pub EachAnswered : Type 0
 EachAnswered = (d e : Detector) (ks : List Call) (bs : List Back) → Feeds d ks bs e → length bs ≡ length ks

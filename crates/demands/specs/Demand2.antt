@@ -11,9 +11,10 @@ use Rattle.waits.specs.Report.{written}
 use Rattle.waits.specs.Code.{laid}
 use Rattle.detector.specs.Tables.{Tables, empty}
 use Rattle.detector.specs.Refusals.{refusal}
-use Rattle.detector.specs.State.{tables, Valid, refusedBy}
+use Rattle.detector.specs.State.{tables, Valid, refusedBy, Steps}
 use Rattle.detector.specs.declared.event.Event.{Event}
 use Rattle.detector.specs.declared.state.Detector.{Detector}
+use Rattle.detector.specs.declared.reply.Answered.{Answered}
 use Rattle.detector.specs.declared.reply.Reply.{Reply}
 use Rattle.detector.specs.declared.reply.Reply.the-variants.{Reports, Refused}
 use Rattle.demands.specs.Reached.{answer, Reached}
@@ -62,3 +63,10 @@ abbrev pub Coincide : Type 0
 Coincide =
     (d e d′ e′ : Detector) (ks : List Call) (bs bs′ : List Back) → Starts d → Feeds d ks bs e → Starts d′ → Feeds d′ ks bs′ e′
     → (bs ≡ bs′) × (tables e ≡ tables e′)
+
+-- nor does it in one call (`steps-coincide`), from any state and with any event and buffer: two results are one. That there
+-- are 16 queues is what the type says.
+abbrev pub StepsCoincide : Type 0
+StepsCoincide =
+    (d : Detector) (ev : Event) (r q : Answered) (b e f : List ℕ) → length (r .detector .rest .«cv_waiters») ≡ 16
+    → length (q .detector .rest .«cv_waiters») ≡ 16 → Steps d ev r b e → Steps d ev q b f → (r ≡ q) × (e ≡ f)
