@@ -20,7 +20,8 @@ abbrev pub AllOf : (Call → Type 0) → List Call → Type 0
 AllOf C [] = Unit
 AllOf C (k ∷ ks) = C k × AllOf C ks
 
--- AN ANSWER AND AN END (`all-answered`, `each-answered`): any events lead from any state to a state, with an answer each
+-- AN ANSWER AND AN END (`all-answered`, `each-answered`): any calls of C lead from any state of T to one of T, with an
+-- answer each
 abbrev pub AllAnswered : Type 1
 AllAnswered =
     (T : Detector → Type 0) (C : Call → Type 0) → Entry T C → (d : Detector) → T d → (ks : List Call) → AllOf C ks
