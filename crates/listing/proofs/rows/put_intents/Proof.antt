@@ -1,0 +1,65 @@
+use Rattle.waits.specs.Tables.{noSlot}
+use Rattle.listing.proofs.Items.{Partly, partly-room, partly-more, partly-all, table-room, close-room, closed, along-more, along-none, partly-start}
+use Rattle.listing.specs.Listing.{along, intentItem, intentsItems}
+use Rattle.answers.proofs.Puts.{put-length}
+use borrow.Author.Needs.{needs}
+use mathlib.Core.Path.{_≡_, refl, _∙_}
+use Prim.Native.Nat.{_-_, _≤_}
+use native.Mathlib.Omega.{arith}
+use lib.ListN.{length, getD}
+use Rattle.listing.proofs.rows.put_intents.Statement.{statement}
+use Rattle.listing.proofs.rows.put_intents.Tie as tie
+
+abbrev Inv-loop : tie.InvT-loop
+Inv-loop out₀ at name slots t₀ to₀ out t to = (t ≤ length slots) × (length slots ≡ 32) × Partly at name (intentsItems slots) (along (λ k. intentItem k (getD slots k noSlot .awaits)) t (length slots - t)) out₀ at out to × (length out ≡ length out₀)
+
+abbrev μ-loop : tie.MeasureT-loop
+μ-loop out₀ at name slots t₀ to₀ out t to = length slots - t
+
+loop-holds : tie.Need-loop-holds Inv-loop μ-loop
+unfolding intentsItems
+loop-holds c = (omega arith, search needs, partly-start _ _ refl (omega arith) (table-room (c .before .before .pre)), refl)
+
+mul-s : tie.Need-mul-s Inv-loop μ-loop
+mul-s c = search needs
+
+array-copy-out-s : tie.Need-array-copy-out-s Inv-loop μ-loop
+array-copy-out-s c = search needs
+
+put-intent-requires : tie.Need-put-intent-requires Inv-loop μ-loop
+put-intent-requires c κs = partly-room (c .before .before .before .loop .inv .2) _ (along-more _ _ _ (omega arith))
+
+add-t : tie.Need-add-t Inv-loop μ-loop
+add-t c = search needs
+
+loop-less : tie.Need-loop-less Inv-loop μ-loop
+loop-less c = search needs
+
+loop-again : tie.Need-loop-again Inv-loop μ-loop
+loop-again c = (omega arith, (c .before .before .before .before .before .before .loop .inv .1), partly-more (c .before .before .before .before .before .before .loop .inv .2) (along-more _ _ _ (omega arith)) (c .before .before .put-intent .ensures), put-length (c .before .before .put-intent .ensures .put) ∙ (c .before .before .before .before .before .before .loop .inv .3))
+
+put-close-requires : tie.Need-put-close-requires Inv-loop μ-loop
+put-close-requires c κs = close-room (partly-all (c .before .before .loop .inv .2) (along-none _ _ _ (omega arith))) (c .before .before .before .before .before .pre)
+
+same-length : tie.Need-same-length Inv-loop μ-loop
+same-length c = search needs
+
+returns : tie.Need-returns Inv-loop μ-loop
+returns c = closed (partly-all (c .before .before .before .before .before .loop .inv .2) (along-none _ _ _ (omega arith))) (c .before .before .put-close .ensures)
+
+pub put-intents-spec : {M : Type 1} → statement M
+put-intents-spec =
+    tie.close
+    (tie.spec
+    Inv-loop
+    μ-loop
+    loop-holds
+    mul-s
+    array-copy-out-s
+    put-intent-requires
+    add-t
+    loop-less
+    loop-again
+    put-close-requires
+    same-length
+    returns)

@@ -1,0 +1,3 @@
+-- The tables of a state as lines of text.
+pub mod Listing
+pub mod Code

@@ -1,0 +1,100 @@
+// The items of a table's line. The line's beginning stands before the first: a table with no item has no line.
+use answers::put_byte;
+use answers::put_bytes;
+use answers::put_number;
+ghost use Prim.Native.Nat.{_≤_};
+ghost use mathlib.Core.List.{[], _∷_};
+ghost use lib.Dec.{eqb};
+ghost use Rattle.answers.specs.Text.{decimal, Room, Put};
+ghost use Rattle.listing.specs.Listing.{two, three};
+ghost use Rattle.listing.specs.Code.{opening, ending, Roomy, Lists};
+
+// What stands before an item of the line that begins at start.
+fn put_open(out: &mut [u8], start: usize, at: usize, name: &[u8]) -> usize
+    requires { ⌜ Room (now out) at (opening (eqb at start) (now name)) ⌝ }
+    ensures { λ r. ⌜ Put (now (out .entry)) at (opening (eqb at start) (now (name .entry))) (now (out .exit)) r ⌝ }
+{
+    if at == start {
+        let a = put_bytes(out, at, b"table\t");
+        let b = put_bytes(out, a, name);
+        return put_byte(out, b, b'\t');
+    }
+    put_byte(out, at, b'\t')
+}
+
+// The line feed, where there is a line.
+pub(crate) fn put_close(out: &mut [u8], start: usize, at: usize) -> usize
+    requires { ⌜ Room (now out) at (ending (eqb at start)) ⌝ }
+    ensures { λ r. ⌜ Put (now (out .entry)) at (ending (eqb at start)) (now (out .exit)) r ⌝ }
+{
+    if at == start {
+        return at;
+    }
+    put_byte(out, at, b'\n')
+}
+
+pub(crate) fn put_one(out: &mut [u8], start: usize, at: usize, name: &[u8], a: usize) -> usize
+    requires { ⌜ Roomy start (now name) (decimal a ∷ []) (now out) at ⌝ }
+    ensures { λ r. ⌜ Lists start (now (name .entry)) (decimal a ∷ []) (now (out .entry)) at (now (out .exit)) r ⌝ }
+{
+    let p = put_open(out, start, at, name);
+    put_number(out, p, a)
+}
+
+pub(crate) fn put_two(
+    out: &mut [u8],
+    start: usize,
+    at: usize,
+    name: &[u8],
+    a: usize,
+    sign: u8,
+    b: usize,
+) -> usize
+    requires { ⌜ Roomy start (now name) (two a sign b ∷ []) (now out) at ⌝ }
+    ensures { λ r. ⌜ Lists start (now (name .entry)) (two a sign b ∷ []) (now (out .entry)) at (now (out .exit)) r ⌝ }
+{
+    let p = put_open(out, start, at, name);
+    let q = put_number(out, p, a);
+    let s = put_byte(out, q, sign);
+    put_number(out, s, b)
+}
+
+pub(crate) fn put_three(
+    out: &mut [u8],
+    start: usize,
+    at: usize,
+    name: &[u8],
+    a: usize,
+    b: usize,
+    c: usize,
+) -> usize
+    requires { ⌜ Roomy start (now name) (three a (decimal b) c ∷ []) (now out) at ⌝ }
+    ensures { λ r. ⌜ Lists start (now (name .entry)) (three a (decimal b) c ∷ []) (now (out .entry)) at (now (out .exit)) r ⌝ }
+{
+    let p = put_open(out, start, at, name);
+    let q = put_number(out, p, a);
+    let s = put_byte(out, q, b':');
+    let t = put_number(out, s, b);
+    let u = put_byte(out, t, b':');
+    put_number(out, u, c)
+}
+
+pub(crate) fn put_word(
+    out: &mut [u8],
+    start: usize,
+    at: usize,
+    name: &[u8],
+    a: usize,
+    word: &[u8],
+    c: usize,
+) -> usize
+    requires { ⌜ Roomy start (now name) (three a (now word) c ∷ []) (now out) at ⌝ }
+    ensures { λ r. ⌜ Lists start (now (name .entry)) (three a (now (word .entry)) c ∷ []) (now (out .entry)) at (now (out .exit)) r ⌝ }
+{
+    let p = put_open(out, start, at, name);
+    let q = put_number(out, p, a);
+    let s = put_byte(out, q, b':');
+    let t = put_bytes(out, s, word);
+    let u = put_byte(out, t, b':');
+    put_number(out, u, c)
+}

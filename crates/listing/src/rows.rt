@@ -1,0 +1,125 @@
+// The tables whose places are no sets: owners, counts, queues, waits on condvars, intents.
+use crate::entry::put_intent;
+use crate::entry::put_owner;
+use crate::entry::put_pair;
+use crate::entry::put_reader;
+use crate::entry::put_wait;
+use crate::item::put_close;
+use detector::CvWait;
+use detector::Pair;
+use detector::Queue;
+use waits::Slot;
+ghost use mathlib.Core.Path.{_≡_};
+ghost use mathlib.Core.List.{map};
+ghost use Prim.Native.Nat.{_<_, _≤_};
+ghost use lib.ListN.{length};
+ghost use Rattle.answers.specs.Text.{Room, Put};
+ghost use Rattle.detector.specs.State.{pairsOf, Queued, blankQueue};
+ghost use Rattle.listing.specs.Listing.{tableText, ownersItems, readersOf, readersItems, queueItems, queuesItems, cvWaitsItems, intentsItems};
+ghost use Rattle.listing.specs.Code.{Roomy, Lists, Queues};
+
+pub(crate) fn put_owners(out: &mut [u8], at: usize, name: &[u8], owners: &[u8]) -> usize
+    requires { ⌜ Room (now out) at (tableText (now name) (ownersItems (now owners))) ⌝ }
+    ensures { λ r. ⌜ Put (now (out .entry)) at (tableText (now (name .entry)) (ownersItems (now (owners .entry)))) (now (out .exit)) r ⌝ }
+{
+    let mut l = 0;
+    let mut to = at;
+    while l < owners.len() {
+        to = put_owner(out, at, to, name, l, owners[l]);
+        l = l + 1;
+    }
+    put_close(out, at, to)
+}
+
+// The readers of lock l.
+fn put_readers_of(
+    out: &mut [u8],
+    start: usize,
+    at: usize,
+    name: &[u8],
+    counts: &[u8; 2048],
+    l: usize,
+) -> usize
+    requires { ⌜ (start ≤ at) × (l < 64) × Roomy start (now name) (readersOf (now counts) l) (now out) at ⌝ }
+    ensures { λ r. ⌜ Lists start (now (name .entry)) (readersOf (now (counts .entry)) l) (now (out .entry)) at (now (out .exit)) r ⌝ }
+{
+    let mut t = 0;
+    let mut to = at;
+    while t < 32 {
+        to = put_reader(out, start, to, name, l, t, counts[l * 32 + t]);
+        t = t + 1;
+    }
+    to
+}
+
+pub(crate) fn put_readers(out: &mut [u8], at: usize, name: &[u8], counts: &[u8; 2048]) -> usize
+    requires { ⌜ Room (now out) at (tableText (now name) (readersItems (now counts))) ⌝ }
+    ensures { λ r. ⌜ Put (now (out .entry)) at (tableText (now (name .entry)) (readersItems (now (counts .entry)))) (now (out .exit)) r ⌝ }
+{
+    let mut l = 0;
+    let mut to = at;
+    while l < 64 {
+        to = put_readers_of(out, at, to, name, counts, l);
+        l = l + 1;
+    }
+    put_close(out, at, to)
+}
+
+// The queue of condvar c.
+fn put_queue(out: &mut [u8], start: usize, at: usize, name: &[u8], c: usize, q: Queue) -> usize
+    requires { ⌜ (start ≤ at) × Queued q × Roomy start (now name) (queueItems c (pairsOf q)) (now out) at ⌝ }
+    ensures { λ r. ⌜ Lists start (now (name .entry)) (queueItems c (pairsOf q)) (now (out .entry)) at (now (out .exit)) r ⌝ }
+{
+    let pairs = q.pairs;
+    let n = q.len as usize;
+    let mut k = 0;
+    let mut to = at;
+    while k < n {
+        let p = pairs[k];
+        to = put_pair(out, start, to, name, c, p);
+        k = k + 1;
+    }
+    to
+}
+
+pub(crate) fn put_queues(out: &mut [u8], at: usize, name: &[u8], queues: [Queue; 16]) -> usize
+    requires { ⌜ Queues queues × Room (now out) at (tableText (now name) (queuesItems (map pairsOf queues))) ⌝ }
+    ensures { λ r. ⌜ Put (now (out .entry)) at (tableText (now (name .entry)) (queuesItems (map pairsOf queues))) (now (out .exit)) r ⌝ }
+{
+    let mut c = 0;
+    let mut to = at;
+    while c < 16 {
+        let q = queues[c];
+        to = put_queue(out, at, to, name, c, q);
+        c = c + 1;
+    }
+    put_close(out, at, to)
+}
+
+pub(crate) fn put_waits(out: &mut [u8], at: usize, name: &[u8], waits: [CvWait; 32]) -> usize
+    requires { ⌜ Room (now out) at (tableText (now name) (cvWaitsItems waits)) ⌝ }
+    ensures { λ r. ⌜ Put (now (out .entry)) at (tableText (now (name .entry)) (cvWaitsItems waits)) (now (out .exit)) r ⌝ }
+{
+    let mut t = 0;
+    let mut to = at;
+    while t < 32 {
+        let v = waits[t];
+        to = put_wait(out, at, to, name, t, v);
+        t = t + 1;
+    }
+    put_close(out, at, to)
+}
+
+pub(crate) fn put_intents(out: &mut [u8], at: usize, name: &[u8], slots: [Slot; 32]) -> usize
+    requires { ⌜ Room (now out) at (tableText (now name) (intentsItems slots)) ⌝ }
+    ensures { λ r. ⌜ Put (now (out .entry)) at (tableText (now (name .entry)) (intentsItems slots)) (now (out .exit)) r ⌝ }
+{
+    let mut t = 0;
+    let mut to = at;
+    while t < 32 {
+        let s = slots[t];
+        to = put_intent(out, at, to, name, t, s);
+        t = t + 1;
+    }
+    put_close(out, at, to)
+}

@@ -1,0 +1,96 @@
+// The tables of a state, by name.
+use crate::members::put_lock_sets;
+use crate::members::put_members;
+use crate::members::put_thread_sets;
+use crate::rows::put_intents;
+use crate::rows::put_owners;
+use crate::rows::put_queues;
+use crate::rows::put_readers;
+use crate::rows::put_waits;
+use detector::CvWait;
+use detector::Detector;
+use detector::Queue;
+use waits::Waits;
+ghost use mathlib.Core.List.{map};
+ghost use Prim.Native.Nat.{_+_, _≤_};
+ghost use lib.ListN.{length};
+ghost use Rattle.answers.specs.Text.{Room, Put};
+ghost use Rattle.detector.specs.State.{tables, pairsOf, Valid};
+ghost use Rattle.listing.specs.Listing.{condvarsText, graphText, mutexesText, rwlocksText, threadsText, tablesText};
+ghost use Rattle.listing.specs.Code.{Queues, tablesRoom};
+
+// Room for the tables of any state.
+pub const TABLES_ROOM: usize = 120000;
+
+fn put_condvars(out: &mut [u8], at: usize, queues: [Queue; 16], woken: u32) -> usize
+    requires { ⌜ Queues queues × Room (now out) at (condvarsText (map pairsOf queues) woken) ⌝ }
+    ensures { λ r. ⌜ Put (now (out .entry)) at (condvarsText (map pairsOf queues) woken) (now (out .exit)) r ⌝ }
+{
+    let a = put_queues(out, at, b"cv_waiters", queues);
+    put_members(out, a, b"cv_woken", woken)
+}
+
+fn put_graph(out: &mut [u8], at: usize, w: Waits) -> usize
+    requires { ⌜ Room (now out) at (graphText w) ⌝ }
+    ensures { λ r. ⌜ Put (now (out .entry)) at (graphText w) (now (out .exit)) r ⌝ }
+{
+    let g = w.wait_for_graph;
+    let edges = g.edges;
+    let a = put_thread_sets(out, at, b"edges", b'>', &edges);
+    let incoming = g.incoming_edges;
+    put_thread_sets(out, a, b"incoming_edges", b'<', &incoming)
+}
+
+fn put_mutexes(out: &mut [u8], at: usize, w: Waits) -> usize
+    requires { ⌜ Room (now out) at (mutexesText w) ⌝ }
+    ensures { λ r. ⌜ Put (now (out .entry)) at (mutexesText w) (now (out .exit)) r ⌝ }
+{
+    let waiters = w.lock_waiters;
+    let a = put_thread_sets(out, at, b"lock_waiters", b':', &waiters);
+    let owners = w.mutex_owners;
+    put_owners(out, a, b"mutex_owners", &owners)
+}
+
+fn put_rwlocks(out: &mut [u8], at: usize, w: Waits, counts: &[u8; 2048]) -> usize
+    requires { ⌜ Room (now out) at (rwlocksText w (now counts)) ⌝ }
+    ensures { λ r. ⌜ Put (now (out .entry)) at (rwlocksText w (now (counts .entry))) (now (out .exit)) r ⌝ }
+{
+    let a = put_readers(out, at, b"rwlock_readers", counts);
+    let writers = w.rwlock_writer;
+    put_owners(out, a, b"rwlock_writer", &writers)
+}
+
+fn put_threads(out: &mut [u8], at: usize, w: Waits, waits: [CvWait; 32]) -> usize
+    requires { ⌜ Room (now out) at (threadsText w waits) ⌝ }
+    ensures { λ r. ⌜ Put (now (out .entry)) at (threadsText w waits) (now (out .exit)) r ⌝ }
+{
+    let holds = w.thread_holds;
+    let a = put_lock_sets(out, at, b"thread_holds", b':', &holds);
+    let b = put_waits(out, a, b"thread_wait_cv", waits);
+    let slots = w.thread_waits_for;
+    put_intents(out, b, b"thread_waits_for", slots)
+}
+
+fn put_all(d: Detector, out: &mut [u8], at: usize) -> usize
+    requires { ⌜ Valid d × Room (now out) at (tablesText (tables d)) ⌝ }
+    ensures { λ r. ⌜ Put (now (out .entry)) at (tablesText (tables d)) (now (out .exit)) r ⌝ }
+{
+    let rest = d.rest;
+    let queues = rest.cv_waiters;
+    let a = put_condvars(out, at, queues, d.cv_woken);
+    let w = d.waits;
+    let b = put_graph(out, a, w);
+    let c = put_mutexes(out, b, w);
+    let counts = rest.rwlock_readers;
+    let e = put_rwlocks(out, c, w, &counts);
+    let waits = rest.thread_wait_cv;
+    put_threads(out, e, w, waits)
+}
+
+// A line for each table that is not empty.
+pub fn put_tables(d: Detector, out: &mut [u8], at: usize) -> usize
+    requires { ⌜ Valid d × (at + tablesRoom ≤ length (now out)) ⌝ }
+    ensures { λ r. ⌜ Put (now (out .entry)) at (tablesText (tables d)) (now (out .exit)) r × (r ≤ at + tablesRoom) ⌝ }
+{
+    put_all(d, out, at)
+}
