@@ -5,8 +5,11 @@ use transcript::begin;
 use transcript::feed;
 use transcript::finish;
 ghost use mathlib.Core.Path.{_≡_};
+ghost use mathlib.Core.Bool.{true};
 ghost use lib.ListN.{length};
-ghost use Rattle.transcript.specs.Code.{Kept};
+ghost use lib.Seq.{sets};
+ghost use Rattle.transcript.specs.Chunks.{fed, ends};
+ghost use Rattle.transcript.specs.Code.{Kept, midOf};
 
 // What is held between two reads; open says that all that had to be written could be.
 struct Held {
@@ -22,10 +25,20 @@ fn write_out(out: &[u8]) -> bool {
     false
 }
 
-// A chunk, or as far as the last line that is read; what is put is written before more is.
+// Two lines on standard error: which script cannot be read and why, and what replay takes.
+fn refuse(name: &[u8]) {
+    io::write_all(libc::STDERR_FILENO, b"replay: cannot read ");
+    os::fail(name);
+    io::write_all(
+        libc::STDERR_FILENO,
+        b"replay takes scripts by name, or one on standard input\n",
+    );
+}
+
+// A chunk, as far as lines are read; what is put is written before more is.
 fn take_chunk(run: Run, carry: &mut [u8], chunk: &[u8], out: &mut [u8], buf: &mut [u8]) -> Held
     requires { ⌜ Kept run (now carry) × (length (now out) ≡ 65536) × (length (now buf) ≡ 2080) ⌝ }
-    ensures { λ r. ⌜ Kept (r .run) (now (carry .exit)) ⌝ }
+    ensures { λ r. ⌜ Kept (r .run) (now (carry .exit)) × (r .open ≡ true → midOf (r .run) (now (carry .exit)) ≡ fed (midOf run (now (carry .entry))) (now (chunk .entry))) ⌝ }
 {
     let mut r = run;
     let mut i = 0;
@@ -48,56 +61,64 @@ fn take_chunk(run: Run, carry: &mut [u8], chunk: &[u8], out: &mut [u8], buf: &mu
 }
 
 // The last line where it lacks its line feed, and the sums.
-fn end(run: Run, carry: &mut [u8], out: &mut [u8], buf: &mut [u8])
+fn end(run: Run, carry: &mut [u8], out: &mut [u8], buf: &mut [u8]) -> bool
     requires { ⌜ Kept run (now carry) × (length (now out) ≡ 65536) × (length (now buf) ≡ 2080) ⌝ }
+    ensures { λ _. ⌜ now (out .exit) ≡ sets (now (out .entry)) 0 (ends (midOf run (now (carry .entry)))) ⌝ }
 {
     let to = finish(run, carry, out, 0, buf);
-    write_out(&out[..to]);
+    write_out(&out[..to])
 }
 
-// No contract can say what is read: a count of turns bounds the loop.
-fn run_script(fd: i32, inp: &mut [u8], carry: &mut [u8], out: &mut [u8], buf: &mut [u8])
+// Answers whether more can be written. No contract can say what is read: a count of turns bounds the loop.
+fn run_script(
+    fd: i32,
+    name: &[u8],
+    inp: &mut [u8],
+    carry: &mut [u8],
+    out: &mut [u8],
+    buf: &mut [u8],
+) -> bool
     requires { ⌜ (length (now carry) ≡ 41) × (length (now out) ≡ 65536) × (length (now buf) ≡ 2080) ⌝ }
 {
     let mut r = begin();
     let mut turns: u64 = 18446744073709551615;
     while turns > 0 {
         if r.lines == LIMIT {
-            end(r, carry, out, buf);
-            return;
+            return end(r, carry, out, buf);
         }
         let got = libc::read(fd, inp);
         if got < 0 {
-            os::fail(b"replay: cannot read");
-            return;
+            refuse(name);
+            return true;
         }
         let k = io::count(got, inp);
         if k == 0 {
-            end(r, carry, out, buf);
-            return;
+            return end(r, carry, out, buf);
         }
         let t = take_chunk(r, carry, &inp[..k], out, buf);
         if !t.open {
-            return;
+            return false;
         }
         let n = t.run;
         r = n;
         turns = turns - 1;
     }
+    true
 }
 
-fn replay_file(i: usize, inp: &mut [u8], carry: &mut [u8], out: &mut [u8], buf: &mut [u8])
+fn replay_file(i: usize, inp: &mut [u8], carry: &mut [u8], out: &mut [u8], buf: &mut [u8]) -> bool
     requires { ⌜ (length (now carry) ≡ 41) × (length (now out) ≡ 65536) × (length (now buf) ≡ 2080) ⌝ }
 {
     let mut path = io::buffer();
     let n = os::arg(i, &mut path);
     let fd = os::open_read(&path[..n]);
     if fd < 0 {
-        os::fail(b"replay takes scripts by name, or one on standard input: cannot open one");
-        return;
+        refuse(&path[..n]);
+        return true;
     }
-    run_script(fd, inp, carry, out, buf);
+    let more = run_script(fd, &path[..n], inp, carry, out, buf);
     libc::close(fd);
+    more
 }
 
 fn main() {
@@ -107,12 +128,21 @@ fn main() {
     let mut buf = [0u8; 2080];
     let n = os::arg_count();
     if n < 2 {
-        run_script(libc::STDIN_FILENO, &mut inp, &mut carry, &mut out, &mut buf);
+        run_script(
+            libc::STDIN_FILENO,
+            b"standard input",
+            &mut inp,
+            &mut carry,
+            &mut out,
+            &mut buf,
+        );
         return;
     }
     let mut i: usize = 1;
     while i < n {
-        replay_file(i, &mut inp, &mut carry, &mut out, &mut buf);
+        if !replay_file(i, &mut inp, &mut carry, &mut out, &mut buf) {
+            return;
+        }
         i = i + 1;
     }
 }

@@ -18,7 +18,7 @@ ghost use Rattle.transcript.specs.Code.{Kept, midOf};
 pub const LAST_ROOM: usize = 8496;
 
 // Lines, edges stored, stuck threads.
-fn put_sums(detector: Detector, lines: usize, out: &mut [u8], at: usize) -> usize
+pub fn put_sums(detector: Detector, lines: usize, out: &mut [u8], at: usize) -> usize
     requires { ⌜ Valid detector × (lines ≤ limit) × (at + endRoom ≤ length (now out)) ⌝ }
     ensures { λ r. ⌜ Put (now (out .entry)) at (lastText (record { lines = lines; tables = tables detector })) (now (out .exit)) r × (r ≤ at + endRoom) ⌝ }
 {

@@ -6,9 +6,11 @@ mod run;
 
 pub use ending::LAST_ROOM;
 pub use ending::finish;
+pub use ending::put_sums;
 pub use lines::CARRY;
 pub use run::LIMIT;
 pub use run::Run;
 pub use run::Turned;
 pub use run::begin;
 pub use run::feed;
+pub use run::take_turn;

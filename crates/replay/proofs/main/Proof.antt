@@ -32,6 +32,9 @@ slice-aggregate-run-script-3 c = search needs
 slice-aggregate-run-script-4 : tie.Need-slice-aggregate-run-script-4 Inv-loop μ-loop
 slice-aggregate-run-script-4 c = search needs
 
+slice-aggregate-run-script-5 : tie.Need-slice-aggregate-run-script-5 Inv-loop μ-loop
+slice-aggregate-run-script-5 c = search needs
+
 run-script-requires : tie.Need-run-script-requires Inv-loop μ-loop
 run-script-requires c κs = search needs
 
@@ -56,6 +59,9 @@ slice-aggregate-replay-file-4 c = search needs
 replay-file-requires : tie.Need-replay-file-requires Inv-loop μ-loop
 replay-file-requires c κs = search needs
 
+returns-2 : tie.Need-returns-2 Inv-loop μ-loop
+returns-2 c = search needs
+
 add-i : tie.Need-add-i Inv-loop μ-loop
 add-i c = search needs
 
@@ -65,8 +71,8 @@ loop-less c = search needs
 loop-again : tie.Need-loop-again Inv-loop μ-loop
 loop-again c = search needs
 
-returns-2 : tie.Need-returns-2 Inv-loop μ-loop
-returns-2 c = search needs
+returns-3 : tie.Need-returns-3 Inv-loop μ-loop
+returns-3 c = search needs
 
 pub main-spec : {M : Type 1} → statement M
 main-spec =
@@ -81,6 +87,7 @@ main-spec =
     slice-aggregate-run-script-2
     slice-aggregate-run-script-3
     slice-aggregate-run-script-4
+    slice-aggregate-run-script-5
     run-script-requires
     returns
     loop-holds
@@ -89,7 +96,8 @@ main-spec =
     slice-aggregate-replay-file-3
     slice-aggregate-replay-file-4
     replay-file-requires
+    returns-2
     add-i
     loop-less
     loop-again
-    returns-2)
+    returns-3)

@@ -9,18 +9,18 @@ use Rattle.replay.proofs.run_script.Statement.{statement}
 use Rattle.replay.proofs.run_script.Tie as tie
 
 abbrev Inv-loop : tie.InvT-loop
-Inv-loop fd inp₀ carry₀ out₀ buf₀ r₀ turns₀ t12 inp carry out buf r turns = Kept r carry × (length out ≡ 65536) × (length buf ≡ 2080) × (turns < 2 ^ 64) × (length inp ≡ length inp₀) × (length carry ≡ length carry₀) × (length out ≡ length out₀) × (length buf ≡ length buf₀)
+Inv-loop fd name inp₀ carry₀ out₀ buf₀ r₀ turns₀ inp carry out buf r turns = Kept r carry × (length out ≡ 65536) × (length buf ≡ 2080) × (turns < 2 ^ 64) × (length inp ≡ length inp₀) × (length carry ≡ length carry₀) × (length out ≡ length out₀) × (length buf ≡ length buf₀)
 
 abbrev μ-loop : tie.MeasureT-loop
-μ-loop fd inp₀ carry₀ out₀ buf₀ r₀ turns₀ t12 inp carry out buf r turns = turns
+μ-loop fd name inp₀ carry₀ out₀ buf₀ r₀ turns₀ inp carry out buf r turns = turns
 
 begin-requires : tie.Need-begin-requires Inv-loop μ-loop
 begin-requires c κs = search needs
 
 loop-holds : tie.Need-loop-holds Inv-loop μ-loop
 loop-holds c =
-    let s = c .before .before .before .before .before in
-    (begins-kept (c .begin .ensures) (s .pre .0), s .pre .1, s .pre .2, omega arith, refl, refl, refl, refl)
+    let p = c .before .before .before .before .before .before .pre in
+    (begins-kept (c .begin .ensures) (p .0), p .1, p .2, omega arith, refl, refl, refl, refl)
 
 end-requires : tie.Need-end-requires Inv-loop μ-loop
 end-requires c κs =
@@ -45,23 +45,20 @@ returns c = search needs
 read-requires : tie.Need-read-requires Inv-loop μ-loop
 read-requires c κs = search needs
 
-slice-aggregate-fail : tie.Need-slice-aggregate-fail Inv-loop μ-loop
-slice-aggregate-fail c = search needs
-
-fail-requires : tie.Need-fail-requires Inv-loop μ-loop
-fail-requires c κs = search needs
+refuse-requires : tie.Need-refuse-requires Inv-loop μ-loop
+refuse-requires c κs = search needs
 
 same-length-5 : tie.Need-same-length-5 Inv-loop μ-loop
-same-length-5 c = c .before .before .before .before .before .read .kept .1 .0 ∙ c .before .before .before .before .before .before .before .before .before .before .loop .inv .4
+same-length-5 c = c .before .before .before .before .read .kept .1 .0 ∙ c .before .before .before .before .before .before .before .before .before .loop .inv .4
 
 same-length-6 : tie.Need-same-length-6 Inv-loop μ-loop
-same-length-6 c = c .before .before .before .before .before .before .before .before .before .before .loop .inv .5
+same-length-6 c = c .before .before .before .before .before .before .before .before .before .loop .inv .5
 
 same-length-7 : tie.Need-same-length-7 Inv-loop μ-loop
-same-length-7 c = c .before .before .before .before .before .before .before .before .before .before .loop .inv .6
+same-length-7 c = c .before .before .before .before .before .before .before .before .before .loop .inv .6
 
 same-length-8 : tie.Need-same-length-8 Inv-loop μ-loop
-same-length-8 c = c .before .before .before .before .before .before .before .before .before .before .loop .inv .7
+same-length-8 c = c .before .before .before .before .before .before .before .before .before .loop .inv .7
 
 returns-2 : tie.Need-returns-2 Inv-loop μ-loop
 returns-2 c = search needs
@@ -126,7 +123,7 @@ loop-again c =
     let v = c .before .before .before .before .before .before .before .before .before .before .before .before .before .before .before .before .before .before .before .before .before .before .before .before .before .loop .inv in
     let t = c .before .before .before .before .before .before .before .before .before .take-chunk in
     let r = c .before .before .before .before .before .before .before .before .before .before .before .before .before .before .before .before .before .before .before .before .read in
-    (t .ensures, t .kept .1 .1 .1 .0 ∙ v .1, t .kept .1 .1 .1 .1 .0 ∙ v .2, omega (arith, v .3), r .kept .1 .0 ∙ v .4, t .kept .1 .0 ∙ v .5, t .kept .1 .1 .1 .0 ∙ v .6, t .kept .1 .1 .1 .1 .0 ∙ v .7)
+    (t .ensures .0, t .kept .1 .1 .1 .0 ∙ v .1, t .kept .1 .1 .1 .1 .0 ∙ v .2, omega (arith, v .3), r .kept .1 .0 ∙ v .4, t .kept .1 .0 ∙ v .5, t .kept .1 .1 .1 .0 ∙ v .6, t .kept .1 .1 .1 .1 .0 ∙ v .7)
 
 same-length-17 : tie.Need-same-length-17 Inv-loop μ-loop
 same-length-17 c = c .before .loop .inv .4
@@ -158,8 +155,7 @@ run-script-spec =
     same-length-4
     returns
     read-requires
-    slice-aggregate-fail
-    fail-requires
+    refuse-requires
     same-length-5
     same-length-6
     same-length-7

@@ -1,8 +1,10 @@
 use Rattle.transcript.proofs.Feeding.{feeds-move}
-use Rattle.transcript.specs.Code.{Kept}
+use Rattle.transcript.specs.Code.{midOf}
+use Rattle.replay.proofs.Chunk.{Taken, taken-none, taken-more, taken-all, taken-full}
 use lib.Seq.{length-take-le}
 use borrow.Author.Needs.{needs}
 use mathlib.Core.Path.{_≡_, refl, sym, _∙_}
+use mathlib.Core.Bool.{false≢true}
 use Prim.Native.Nat.{_-_, _≤_}
 use native.Mathlib.Omega.{arith}
 use lib.ListN.{length}
@@ -10,7 +12,7 @@ use Rattle.replay.proofs.take_chunk.Statement.{statement}
 use Rattle.replay.proofs.take_chunk.Tie as tie
 
 abbrev Inv-loop : tie.InvT-loop
-Inv-loop carry₀ chunk out₀ buf₀ r₀ i₀ carry out buf r i = Kept r carry × (length out ≡ 65536) × (length buf ≡ 2080) × (i ≤ length chunk) × (length carry ≡ length carry₀) × (length out ≡ length out₀) × (length buf ≡ length buf₀)
+Inv-loop carry₀ chunk out₀ buf₀ r₀ i₀ carry out buf r i = Taken (midOf r₀ carry₀) chunk carry r i × (length out ≡ 65536) × (length buf ≡ 2080) × (length carry ≡ length carry₀) × (length out ≡ length out₀) × (length buf ≡ length buf₀)
 
 abbrev μ-loop : tie.MeasureT-loop
 μ-loop carry₀ chunk out₀ buf₀ r₀ i₀ carry out buf r i = length chunk - i
@@ -18,24 +20,26 @@ abbrev μ-loop : tie.MeasureT-loop
 loop-holds : tie.Need-loop-holds Inv-loop μ-loop
 loop-holds c =
     let s = c .before .before .before .before in
-    (s .pre .0, s .pre .1, s .pre .2, omega arith, refl, refl, refl)
+    (taken-none _ _ _ (s .pre .0), s .pre .1, s .pre .2, refl, refl, refl)
 
 same-length : tie.Need-same-length Inv-loop μ-loop
-same-length c = c .before .before .before .loop .inv .4
+same-length c = c .before .before .before .loop .inv .3
 
 same-length-2 : tie.Need-same-length-2 Inv-loop μ-loop
-same-length-2 c = c .before .before .before .loop .inv .5
+same-length-2 c = c .before .before .before .loop .inv .4
 
 same-length-3 : tie.Need-same-length-3 Inv-loop μ-loop
-same-length-3 c = c .before .before .before .loop .inv .6
+same-length-3 c = c .before .before .before .loop .inv .5
 
 returns : tie.Need-returns Inv-loop μ-loop
-returns c = c .before .before .before .loop .inv .0
+returns c =
+    let v = c .before .before .before .loop .inv in
+    (v .0 .kept, λ e. taken-full (v .0) (c .if1 .taken))
 
 feed-requires : tie.Need-feed-requires Inv-loop μ-loop
 feed-requires c κs =
     let v = c .before .before .before .before .before .before .loop .inv in
-    ((v .0, v .2), (v .3, omega arith))
+    ((v .0 .kept, v .2), (v .0 .inside, omega arith))
 
 slice-reshare-prefix-write-out : tie.Need-slice-reshare-prefix-write-out Inv-loop μ-loop
 slice-reshare-prefix-write-out c = omega (arith, c .before .before .before .before .before .before .before .feed .ensures .place, c .before .before .before .before .before .before .before .feed .kept .1 .1 .1 .1 .0)
@@ -47,41 +51,49 @@ write-out-requires : tie.Need-write-out-requires Inv-loop μ-loop
 write-out-requires c κs = search needs
 
 same-length-4 : tie.Need-same-length-4 Inv-loop μ-loop
-same-length-4 c = c .before .before .before .before .before .before .before .before .before .before .feed .kept .1 .0 ∙ c .before .before .before .before .before .before .before .before .before .before .before .before .before .before .before .before .before .loop .inv .4
+same-length-4 c = c .before .before .before .before .before .before .before .before .before .before .feed .kept .1 .0 ∙ c .before .before .before .before .before .before .before .before .before .before .before .before .before .before .before .before .before .loop .inv .3
 
 same-length-5 : tie.Need-same-length-5 Inv-loop μ-loop
-same-length-5 c = c .before .before .before .before .before .before .before .before .before .before .feed .kept .1 .1 .1 .1 .0 ∙ c .before .before .before .before .before .before .before .before .before .before .before .before .before .before .before .before .before .loop .inv .5
+same-length-5 c = c .before .before .before .before .before .before .before .before .before .before .feed .kept .1 .1 .1 .1 .0 ∙ c .before .before .before .before .before .before .before .before .before .before .before .before .before .before .before .before .before .loop .inv .4
 
 same-length-6 : tie.Need-same-length-6 Inv-loop μ-loop
-same-length-6 c = c .before .before .before .before .before .before .before .before .before .before .feed .kept .1 .1 .1 .1 .1 .1 .0 ∙ c .before .before .before .before .before .before .before .before .before .before .before .before .before .before .before .before .before .loop .inv .6
+same-length-6 c = c .before .before .before .before .before .before .before .before .before .before .feed .kept .1 .1 .1 .1 .1 .1 .0 ∙ c .before .before .before .before .before .before .before .before .before .before .before .before .before .before .before .before .before .loop .inv .5
 
 returns-2 : tie.Need-returns-2 Inv-loop μ-loop
-returns-2 c = c .before .before .before .before .before .before .before .before .before .before .feed .ensures .kept
+returns-2 c = (c .before .before .before .before .before .before .before .before .before .before .feed .ensures .kept, λ e. absurd (false≢true e))
 
 loop-less : tie.Need-loop-less Inv-loop μ-loop
 loop-less c =
     let f = c .before .before .before .before .before .before .before .before .before .before .feed .ensures in
     let v = c .before .before .before .before .before .before .before .before .before .before .before .before .before .before .before .before .before .loop .inv in
-    let m = feeds-move f (c .before .before .before .before .before .before .before .before .before .before .before .before .before .before .before .before .loop-test .taken) (omega (arith, v .0 .lines, c .before .before .before .before .before .before .before .before .before .before .before .before .before .before .if1 .left)) (omega (arith, v .1)) in
+    let m = feeds-move f (c .before .before .before .before .before .before .before .before .before .before .before .before .before .before .before .before .loop-test .taken) (omega (arith, v .0 .kept .lines, c .before .before .before .before .before .before .before .before .before .before .before .before .before .before .if1 .left)) (omega (arith, v .1)) in
     omega (arith, m, f .inside)
 
 loop-again : tie.Need-loop-again Inv-loop μ-loop
 loop-again c =
     let f = c .before .before .before .before .before .before .before .before .before .before .feed in
-    let v = c .before .before .before .before .before .before .before .before .before .before .before .before .before .before .before .before .before .loop .inv in
-    (f .ensures .kept, f .kept .1 .1 .1 .1 .0 ∙ v .1, f .kept .1 .1 .1 .1 .1 .1 .0 ∙ v .2, f .ensures .inside, f .kept .1 .0 ∙ v .4, f .kept .1 .1 .1 .1 .0 ∙ v .5, f .kept .1 .1 .1 .1 .1 .1 .0 ∙ v .6)
+    let v = c .before .before .before .before .before .before .before .before .before .before .before .before .before .before .before .before .before .loop .inv in (
+      taken-more (v .0) (f .ensures .kept) (f .ensures .onward) (f .ensures .inside) (f .ensures .after),
+      f .kept .1 .1 .1 .1 .0 ∙ v .1,
+      f .kept .1 .1 .1 .1 .1 .1 .0 ∙ v .2,
+      f .kept .1 .0 ∙ v .3,
+      f .kept .1 .1 .1 .1 .0 ∙ v .4,
+      f .kept .1 .1 .1 .1 .1 .1 .0 ∙ v .5,
+    )
 
 same-length-7 : tie.Need-same-length-7 Inv-loop μ-loop
-same-length-7 c = c .before .loop .inv .4
+same-length-7 c = c .before .loop .inv .3
 
 same-length-8 : tie.Need-same-length-8 Inv-loop μ-loop
-same-length-8 c = c .before .loop .inv .5
+same-length-8 c = c .before .loop .inv .4
 
 same-length-9 : tie.Need-same-length-9 Inv-loop μ-loop
-same-length-9 c = c .before .loop .inv .6
+same-length-9 c = c .before .loop .inv .5
 
 returns-3 : tie.Need-returns-3 Inv-loop μ-loop
-returns-3 c = c .before .loop .inv .0
+returns-3 c =
+    let v = c .before .loop .inv in
+    (v .0 .kept, λ e. taken-all (v .0) (c .loop-test .left))
 
 pub take-chunk-spec : {M : Type 1} → statement M
 take-chunk-spec =
