@@ -1,0 +1,277 @@
+-- A part of a text in which one line ends at most: what tables prints for it is what replay prints, and the tables behind it.
+use mathlib.Core.Path.{_≡_, refl, sym, ap, ap₂, _∙_, subst}
+use mathlib.Core.Bool.{Bool, true, false, cond}
+use mathlib.Core.List.{List, [], _∷_, _++_, append-nil}
+use Prim.Native.Nat.{ℕ, suc, _+_, _<_, _≤_}
+use native.Mathlib.Omega.{arith}
+use native.Mathlib.Numerals.{add-one}
+use borrow.Author.Tests.{ne-eqb, lt-ltb, le-ltb}
+use lib.Dec.{eqb, ltb}
+use lib.ListN.{length, take, drop, getD, length-take, take-append-drop}
+use lib.Seq.{slice-empty, take-take, take-suc, drop-append-le, length-take-le}
+use Rattle.answers.specs.Text.{Put}
+use Rattle.answers.specs.Answers.{answerRoom, endRoom}
+use Rattle.answers.proofs.Puts.{then}
+use Rattle.detector.specs.Tables.{Tables}
+use Rattle.detector.specs.State.{tables}
+use Rattle.listing.specs.Listing.{tablesText}
+use Rattle.listing.specs.Code.{tablesRoom}
+use Rattle.transcript.specs.Lines.{lineFeed}
+use Rattle.transcript.specs.Replay.{Run, limit, after, lineText, lastText}
+use Rattle.transcript.specs.Chunks.{Mid, mid, step, said, fed, says, lastLine}
+use Rattle.transcript.specs.Code.{Kept, runOf, midOf, between, Turns}
+use Rattle.transcript.specs.declared.run.Run as code
+use Rattle.transcript.specs.declared.run.Turned.{Turned}
+use Rattle.tables.specs.Shown.{lineShown, shownOf, shown, shows, closes}
+use Rattle.tables.specs.Code.{space, feeds, OneLine, Shows}
+
+-- ---- a byte ends no line that is read, or it ends one
+
+record Idle (m : Mid) (b : ℕ) : Type 0 where
+  run : step m b .run ≡ m .run
+  says : said m b ≡ []
+  shows : shown m b ≡ []
+
+record Ends (m : Mid) (b : ℕ) : Type 0 where
+  feed : eqb b lineFeed ≡ true
+  run : step m b .run ≡ after (m .run) (m .part)
+  says : said m b ≡ lineText (m .run) (m .part)
+  shows : shown m b ≡ lineShown (m .run) (m .part)
+
+byte-pick : {X : Type 0} (free feed : Bool) (m : Mid) (b : ℕ) → ltb (m .run .lines) limit ≡ free → eqb b lineFeed ≡ feed → (Idle m b → X) → (Ends m b → X) → X
+unfolding step said shown
+byte-pick false feed m b e f i l = i (record { run = rw e refl; says = rw e refl; shows = rw e refl })
+byte-pick true false m b e f i l = i (record { run = rw (e, f) refl; says = rw (e, f) refl; shows = rw (e, f) refl })
+byte-pick true true m b e f i l = l (record { feed = f; run = rw (e, f) refl; says = rw (e, f) refl; shows = rw (e, f) refl })
+
+byte : {X : Type 0} (m : Mid) (b : ℕ) → (Idle m b → X) → (Ends m b → X) → X
+byte m b = byte-pick (ltb (m .run .lines) limit) (eqb b lineFeed) m b refl refl
+
+idle-lines : {m : Mid} {b : ℕ} → Idle m b → step m b .run .lines ≡ m .run .lines
+idle-lines i = ap (λ (r : Run). r .lines) (i .run)
+
+ends-lines : {m : Mid} {b : ℕ} → Ends m b → step m b .run .lines ≡ m .run .lines + 1
+unfolding after
+ends-lines l = ap (λ (r : Run). r .lines) (l .run)
+
+-- ---- how many lines are read
+
+lines-up : (m : Mid) (t : List ℕ) → m .run .lines ≤ fed m t .run .lines
+unfolding fed
+lines-up m [] = omega arith
+lines-up m (b ∷ t) =
+    let n : step m b .run .lines ≤ fed (step m b) t .run .lines = lines-up (step m b) t in
+    byte m b (λ i. omega (arith, n, idle-lines i)) (λ l. omega (arith, n, ends-lines l))
+
+feeds-pick : (f : Bool) (b : ℕ) (t : List ℕ) → eqb b lineFeed ≡ f → feeds t ≤ feeds (b ∷ t)
+unfolding feeds
+feeds-pick true b t e = rw e (omega arith)
+feeds-pick false b t e = rw e (omega arith)
+
+feeds-feed : (b : ℕ) (t : List ℕ) → eqb b lineFeed ≡ true → feeds (b ∷ t) ≡ suc (feeds t)
+unfolding feeds
+feeds-feed b t e = rw e refl
+
+lines-few : (m : Mid) (t : List ℕ) → fed m t .run .lines ≤ m .run .lines + feeds t
+unfolding fed
+lines-few m [] = omega arith
+lines-few m (b ∷ t) =
+    let n : fed (step m b) t .run .lines ≤ step m b .run .lines + feeds t = lines-few (step m b) t in
+    byte m b
+    (λ i. omega (arith, n, idle-lines i, feeds-pick (eqb b lineFeed) b t refl))
+    (λ l. omega (arith, n, ends-lines l, feeds-feed b t (l .feed)))
+
+feeds-first : (a b : List ℕ) → feeds a ≤ feeds (a ++ b)
+unfolding feeds
+feeds-first [] b = omega arith
+feeds-first (x ∷ a) b = go (eqb x lineFeed) (feeds-first a b)
+  where
+    go : (f : Bool) → feeds a ≤ feeds (a ++ b) → cond f (suc (feeds a)) (feeds a) ≤ cond f (suc (feeds (a ++ b))) (feeds (a ++ b))
+    go true h = omega arith
+    go false h = h
+
+-- ---- a part of a chunk, byte by byte
+
+feeds-more : (a : List ℕ) (b : ℕ) → feeds (a ++ (b ∷ [])) ≡ feeds a + feeds (b ∷ [])
+unfolding feeds
+feeds-more [] b = omega arith
+feeds-more (x ∷ a) b = go (eqb x lineFeed) (feeds-more a b)
+  where
+    go : (f : Bool) → feeds (a ++ (b ∷ [])) ≡ feeds a + feeds (b ∷ []) → cond f (suc (feeds (a ++ (b ∷ [])))) (feeds (a ++ (b ∷ []))) ≡ cond f (suc (feeds a)) (feeds a) + feeds (b ∷ [])
+    go true h = omega arith
+    go false h = h
+
+feeds-byte : (b : ℕ) → feeds (b ∷ []) ≤ 1
+unfolding feeds
+feeds-byte b = go (eqb b lineFeed)
+  where
+    go : (f : Bool) → cond f 1 0 ≤ 1
+    go true = omega arith
+    go false = omega arith
+
+feeds-other : (b : ℕ) → (b ≡ lineFeed → ⊥) → feeds (b ∷ []) ≡ 0
+unfolding feeds
+feeds-other b n = rw (ne-eqb b lineFeed n) refl
+
+between-more : (l : List ℕ) (from i : ℕ) → from ≤ i → i < length l → between from (i + 1) l ≡ between from i l ++ (getD l i 0 ∷ [])
+between-more l from i h w =
+    ap (drop from) (rw add-one (take-suc l i 0 w)) ∙ drop-append-le from (take i l) (getD l i 0 ∷ []) (omega (arith, length-take-le i l (omega arith)))
+
+-- no line ends in the part of the chunk so far
+pub record NoLine (chunk : List ℕ) (from i : ℕ) : Type 0 where
+  pub onward : from ≤ i
+  pub inside : i ≤ length chunk
+  pub none : feeds (between from i chunk) ≡ 0
+
+pub no-line : (chunk : List ℕ) (from : ℕ) → from < length chunk → NoLine chunk from from
+unfolding feeds
+no-line chunk from h = record { onward = omega arith; inside = omega arith; none = ap feeds (slice-empty from chunk) }
+
+module _ {chunk : List ℕ} {from i : ℕ} (g : NoLine chunk from i) where
+  pub no-line-more : i < length chunk → (getD chunk i 0 ≡ lineFeed → ⊥) → NoLine chunk from (i + 1)
+  no-line-more h n =
+      record {
+        onward = omega (arith, g .onward);
+        inside = omega arith;
+        none = ap feeds (between-more chunk from i (g .onward) h) ∙ feeds-more (between from i chunk) (getD chunk i 0) ∙ omega (arith, g .none, feeds-other (getD chunk i 0) n);
+      }
+
+  pub line-ended : i < length chunk → OneLine chunk from (i + 1)
+  line-ended h =
+      record {
+        onward = omega (arith, g .onward);
+        inside = omega arith;
+        one = omega (
+          arith,
+          ap feeds (between-more chunk from i (g .onward) h),
+          feeds-more (between from i chunk) (getD chunk i 0),
+          g .none,
+          feeds-byte (getD chunk i 0),
+        );
+      }
+
+  pub chunk-ended : from < length chunk → length chunk ≤ i → OneLine chunk from i
+  chunk-ended w h = record { onward = omega arith; inside = g .inside; one = omega (arith, g .none) }
+
+-- ---- what is printed where no line is read, and where one is
+
+record Quiet (m : Mid) (t : List ℕ) : Type 0 where
+  run : fed m t .run ≡ m .run
+  says : says m t ≡ []
+  shows : shows m t ≡ []
+
+quiet : (m : Mid) (t : List ℕ) → fed m t .run .lines ≡ m .run .lines → Quiet m t
+unfolding fed says shows
+quiet m [] e = record { run = refl; says = refl; shows = refl }
+quiet m (b ∷ t) e = byte m b (λ i. go i (quiet (step m b) t (e ∙ sym (idle-lines i)))) (λ l. absurd (omega (arith, lines-up (step m b) t, ends-lines l)))
+  where
+    go : Idle m b → Quiet (step m b) t → Quiet m (b ∷ t)
+    go i q =
+        record {
+          run = q .run ∙ i .run;
+          says = ap₂ (λ (x y : List ℕ). x ++ y) (i .says) (q .says);
+          shows = ap₂ (λ (x y : List ℕ). x ++ y) (i .shows) (q .shows);
+        }
+
+single : (m : Mid) (t : List ℕ) → fed m t .run .lines ≡ m .run .lines + 1 → shows m t ≡ says m t ++ tablesText (fed m t .run .tables)
+unfolding fed says shows lineShown
+single m [] e = absurd (omega arith)
+single m (b ∷ t) e = byte m b
+    (λ i. rw (i .says, i .shows) (single (step m b) t (e ∙ ap (λ (n : ℕ). n + 1) (sym (idle-lines i)))))
+    (λ l. go l (quiet (step m b) t (e ∙ sym (ends-lines l))))
+  where
+    go : Ends m b → Quiet (step m b) t → shown m b ++ shows (step m b) t ≡ (said m b ++ says (step m b) t) ++ tablesText (fed (step m b) t .run .tables)
+    go l q =
+        rw (l .says, l .shows, q .says, q .shows, q .run, l .run)
+        (append-nil (lineShown (m .run) (m .part)) ∙ ap (λ (x : List ℕ). x ++ tablesText (after (m .run) (m .part) .tables)) (sym (append-nil (lineText (m .run) (m .part)))))
+
+-- ---- a turn over a part in which one line ends at most
+
+module _ {r : code.Run} {carry chunk : List ℕ} {from e : ℕ} {out : List ℕ} {t : Turned} {carry′ out′ : List ℕ} (o : OneLine chunk from e) (s : Turns r carry (take e chunk) from out 0 t carry′ out′) where
+  ahead : t .next ≤ e
+  ahead = omega (arith, s .inside, length-take-le e chunk (o .inside))
+
+  part : between from (t .next) (take e chunk) ≡ between from (t .next) chunk
+  part = ap (drop from) (take-take (t .next) e chunk ahead)
+
+  lead : between from e chunk ≡ between from (t .next) chunk ++ drop (t .next) (take e chunk)
+  lead =
+      ap (drop from) (sym (take-append-drop (t .next) (take e chunk)) ∙ ap (λ (x : List ℕ). x ++ drop (t .next) (take e chunk)) (take-take (t .next) e chunk ahead))
+      ∙ drop-append-le from (take (t .next) chunk) (drop (t .next) (take e chunk)) (omega (arith, s .onward, length-take-le (t .next) chunk (omega (arith, ahead, o .inside))))
+
+  few : feeds (between from (t .next) chunk) ≤ 1
+  few = omega (arith, o .one, feeds-first (between from (t .next) chunk) (drop (t .next) (take e chunk)), ap feeds lead)
+
+  moved : midOf (t .run) carry′ ≡ fed (midOf r carry) (between from (t .next) chunk)
+  moved = s .after ∙ ap (fed (midOf r carry)) part
+
+  count : t .run .lines ≡ fed (midOf r carry) (between from (t .next) chunk) .run .lines
+  count = ap (λ (m : Mid). m .run .lines) moved
+
+  put : Put out 0 (says (midOf r carry) (between from (t .next) chunk)) out′ (t .at)
+  put = subst (λ (z : List ℕ). Put out 0 (says (midOf r carry) z) out′ (t .at)) part (s .text)
+
+  pub shows-none : t .run .lines ≡ r .lines → Shows r carry chunk from out t carry′ out′
+  shows-none same =
+      let q : Quiet (midOf r carry) (between from (t .next) chunk) = quiet (midOf r carry) (between from (t .next) chunk) (sym count ∙ same) in
+      record {
+        kept = s .kept;
+        onward = s .onward;
+        inside = omega (arith, ahead, o .inside);
+        after = moved;
+        text = subst (λ (z : List ℕ). Put out 0 z out′ (t .at)) (q .says ∙ sym (q .shows)) put;
+        place = omega (arith, s .place);
+      }
+
+  pub shows-tables : (out″ : List ℕ) (to : ℕ) → (t .run .lines ≡ r .lines → ⊥) → Put out′ (t .at) (tablesText (tables (t .run .detector))) out″ to → to ≤ t .at + tablesRoom
+      → Shows r carry chunk from out (record { run = t .run; next = t .next; at = to }) carry′ out″
+  shows-tables out″ to other p w =
+      let grown : fed (midOf r carry) (between from (t .next) chunk) .run .lines ≡ r .lines + 1 =
+      omega (arith, other, count, few, lines-few (midOf r carry) (between from (t .next) chunk), lines-up (midOf r carry) (between from (t .next) chunk)) in
+      let state : tables (t .run .detector) ≡ fed (midOf r carry) (between from (t .next) chunk) .run .tables = ap (λ (m : Mid). m .run .tables) moved in
+      record {
+        kept = s .kept;
+        onward = s .onward;
+        inside = omega (arith, ahead, o .inside);
+        after = moved;
+        text = subst (λ (z : List ℕ). Put out 0 z out″ to)
+            (ap (λ (x : Tables). says (midOf r carry) (between from (t .next) chunk) ++ tablesText x) state ∙ sym (single (midOf r carry) (between from (t .next) chunk) grown))
+            (then put p);
+        place = omega (arith, s .place, w);
+      }
+
+-- ---- the end
+
+pub closes-none : (r : code.Run) (carry : List ℕ) → r .have ≡ 0 → closes (midOf r carry) ≡ lastText (runOf r)
+unfolding closes shownOf
+closes-none r carry e = ap (λ (h : ℕ). shownOf (runOf r) (lastLine (take h carry))) e
+
+shown-full : (r : Run) (ls : List (List ℕ)) → ltb (r .lines) limit ≡ false → shownOf r ls ≡ lastText r
+unfolding shownOf
+shown-full r [] e = refl
+shown-full r (l ∷ ls) e = rw e
+
+pub closes-full : (r : code.Run) (carry : List ℕ) → r .lines ≡ limit → closes (midOf r carry) ≡ lastText (runOf r)
+unfolding closes
+closes-full r carry e = shown-full (runOf r) (lastLine (take (r .have) carry)) (le-ltb (r .lines) limit (omega arith))
+
+closes-line : (p : List ℕ) (r : Run) → 0 < length p → ltb (r .lines) limit ≡ true → closes (mid p r) ≡ shows (mid p r) (lineFeed ∷ []) ++ lastText (fed (mid p r) (lineFeed ∷ []) .run)
+unfolding closes shownOf shows shown fed step
+closes-line [] r h e = absurd (omega arith)
+closes-line (b ∷ p) r h e = rw (e, append-nil)
+
+-- the last line lacks its line feed
+pub closes-more : (r : code.Run) (carry carry′ out out₁ out₂ : List ℕ) (k : ℕ) (t : Turned) → Kept r carry → (r .have ≡ 0 → ⊥) → (r .lines ≡ limit → ⊥)
+    → Shows r carry (lineFeed ∷ []) 0 out t carry′ out₁ → Put out₁ (t .at) (lastText (runOf (t .run))) out₂ k × (k ≤ t .at + endRoom)
+    → Put out 0 (closes (midOf r carry)) out₂ k × (k ≤ space)
+closes-more r carry carry′ out out₁ out₂ k t g h n s p =
+    let one : t .next ≡ 1 = omega (arith, s .onward, s .inside) in
+    let cut : between 0 (t .next) (lineFeed ∷ []) ≡ lineFeed ∷ [] = ap (λ (j : ℕ). between 0 j (lineFeed ∷ [])) one in
+    let some : 0 < length (take (r .have) carry) = omega (arith, length-take (r .have) carry, g .long, h) in
+    let free : ltb (r .lines) limit ≡ true = lt-ltb (r .lines) limit (omega (arith, g .lines, n)) in
+    let last : runOf (t .run) ≡ fed (midOf r carry) (lineFeed ∷ []) .run = ap (λ (m : Mid). m .run) (s .after ∙ ap (fed (midOf r carry)) cut) in (
+      subst (λ (z : List ℕ). Put out 0 z out₂ k)
+          (ap₂ (λ (c : List ℕ) (u : Run). shows (midOf r carry) c ++ lastText u) cut last ∙ sym (closes-line (take (r .have) carry) (runOf r) some free))
+          (then (s .text) (p .0)),
+      omega (arith, p .1, s .place),
+    )

@@ -1,0 +1,42 @@
+-- WHAT TABLES PRINTS for a script: "like replay, and after each line's answer and its cycle lines (refused lines too) one line for
+-- each table that is not empty". The end line as in replay.
+use Prim.Native.Nat.{ℕ}
+use mathlib.Core.Path.{_≡_}
+use mathlib.Core.Bool.{cond}
+use mathlib.Core.List.{List, [], _∷_, _++_}
+use lib.Dec.{eqb, ltb}
+use Rattle.listing.specs.Listing.{tablesText}
+use Rattle.transcript.specs.Lines.{lineFeed, linesOf}
+use Rattle.transcript.specs.Replay.{Run, limit, begun, after, lineText, lastText}
+use Rattle.transcript.specs.Chunks.{Mid, start, step, fed, lastLine}
+
+-- the line l is the next one: its answer, and the tables after it
+unfoldable pub lineShown : Run → List ℕ → List ℕ
+lineShown r l = lineText r l ++ tablesText (after r l .tables)
+
+unfoldable pub shownOf : Run → List (List ℕ) → List ℕ
+shownOf r [] = lastText r
+shownOf r (l ∷ ls) = cond (ltb (r .lines) limit) (lineShown r l ++ shownOf (after r l) ls) (lastText r)
+
+-- what is printed for the script t
+unfoldable pub shownText : List ℕ → List ℕ
+shownText t = shownOf begun (linesOf t)
+
+-- ---- the same in chunks, as replay's
+
+-- for a byte more
+unfoldable pub shown : Mid → ℕ → List ℕ
+shown m b = cond (ltb (m .run .lines) limit) (cond (eqb b lineFeed) (lineShown (m .run) (m .part)) []) []
+
+-- for a chunk
+unfoldable pub shows : Mid → List ℕ → List ℕ
+shows m [] = []
+shows m (b ∷ t) = shown m b ++ shows (step m b) t
+
+-- at the text's end
+unfoldable pub closes : Mid → List ℕ
+closes m = shownOf (m .run) (lastLine (m .part))
+
+-- THE TEXT THEOREM of tables: what is printed for a text and at its end is the text's
+abbrev pub ShownTheorem : Type 0
+ShownTheorem = (t : List ℕ) → shows start t ++ closes (fed start t) ≡ shownText t
