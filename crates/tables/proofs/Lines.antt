@@ -92,7 +92,7 @@ feeds-first (x ∷ a) b = go (eqb x lineFeed) (feeds-first a b)
 
 -- ---- a part of a chunk, byte by byte
 
-feeds-more : (a : List ℕ) (b : ℕ) → feeds (a ++ (b ∷ [])) ≡ feeds a + feeds (b ∷ [])
+pub feeds-more : (a : List ℕ) (b : ℕ) → feeds (a ++ (b ∷ [])) ≡ feeds a + feeds (b ∷ [])
 unfolding feeds
 feeds-more [] b = omega arith
 feeds-more (x ∷ a) b = go (eqb x lineFeed) (feeds-more a b)
@@ -246,7 +246,7 @@ pub closes-none : (r : code.Run) (carry : List ℕ) → r .have ≡ 0 → closes
 unfolding closes shownOf
 closes-none r carry e = ap (λ (h : ℕ). shownOf (runOf r) (lastLine (take h carry))) e
 
-shown-full : (r : Run) (ls : List (List ℕ)) → ltb (r .lines) limit ≡ false → shownOf r ls ≡ lastText r
+pub shown-full : (r : Run) (ls : List (List ℕ)) → ltb (r .lines) limit ≡ false → shownOf r ls ≡ lastText r
 unfolding shownOf
 shown-full r [] e = refl
 shown-full r (l ∷ ls) e = rw e

@@ -8,7 +8,7 @@ use lib.Dec.{eqb, ltb}
 use Rattle.listing.specs.Listing.{tablesText}
 use Rattle.transcript.specs.Lines.{lineFeed, linesOf}
 use Rattle.transcript.specs.Replay.{Run, limit, begun, after, lineText, lastText}
-use Rattle.transcript.specs.Chunks.{Mid, start, step, fed, lastLine}
+use Rattle.transcript.specs.Chunks.{Mid, start, step, fed, lastLine, fedAll, joined}
 
 -- the line l is the next one: its answer, and the tables after it
 unfoldable pub lineShown : Run → List ℕ → List ℕ
@@ -37,6 +37,11 @@ shows m (b ∷ t) = shown m b ++ shows (step m b) t
 unfoldable pub closes : Mid → List ℕ
 closes m = shownOf (m .run) (lastLine (m .part))
 
--- THE TEXT THEOREM of tables: what is printed for a text and at its end is the text's
+-- chunks, one after the other
+unfoldable pub showsAll : Mid → List (List ℕ) → List ℕ
+showsAll m [] = []
+showsAll m (t ∷ ts) = shows m t ++ showsAll (fed m t) ts
+
+-- THE TEXT THEOREM of tables: whatever the chunks, what is printed for them and at their end is the text of their concatenation
 abbrev pub ShownTheorem : Type 0
-ShownTheorem = (t : List ℕ) → shows start t ++ closes (fed start t) ≡ shownText t
+ShownTheorem = (ts : List (List ℕ)) → showsAll start ts ++ closes (fedAll start ts) ≡ shownText (joined ts)

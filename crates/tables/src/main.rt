@@ -42,7 +42,7 @@ fn refuse(name: &[u8]) {
     os::fail(name);
     io::write_all(
         libc::STDERR_FILENO,
-        b"tables takes scripts by name, or one on standard input\n",
+        b"tables takes scripts by name, or one on standard input: an event a line, tabs between its fields\n",
     );
 }
 
