@@ -1,5 +1,5 @@
--- WHAT TABLES PRINTS for a script: "like replay, and after each line's answer and its cycle lines (refused lines too) one line for
--- each table that is not empty". The end line as in replay.
+-- WHAT TABLES PRINTS for a script: what replay prints, and after each line's answer and its cycle lines, refused lines too, a line for
+-- each table that is not empty.
 use Prim.Native.Nat.{ℕ}
 use mathlib.Core.Path.{_≡_}
 use mathlib.Core.Bool.{cond}
