@@ -21,6 +21,7 @@ use Rattle.detector.specs.declared.event.Event.{Event}
 use Rattle.detector.specs.declared.event.Event.the-variants.{MutexAttempt, MutexAcquired, MutexReleased, MutexExit, RwReadAttempt, RwReadAcquired, RwReadTry, RwReadReleased, RwWriteAttempt, RwWriteAcquired, RwWriteReleased, RwExit, CondvarSpawn, CondvarExit, CondvarWaitBegin, CondvarNotifyOne, CondvarNotifyAll, CondvarWaitEnd}
 use Rattle.detector.specs.declared.state.Detector.{Detector}
 use Rattle.detector.specs.declared.reply.Answered.{Answered}
+use Rattle.detector.specs.declared.reply.Done.{Done}
 use Rattle.detector.specs.declared.reply.Reply.{Reply}
 use Rattle.detector.specs.declared.reply.Reply.the-variants.{Reports, Refused}
 use Rattle.demands.specs.Reached.{answer, Reached}
@@ -31,7 +32,10 @@ use Rattle.demands.proofs.Demands.{reached-next}
 use Rattle.answers.specs.Reports.{reportsIn, reportsSize, entriesBytes, reportsBytes}
 use Rattle.answers.specs.Answers.{reports}
 use Rattle.answers.proofs.Laid.{reports-read, reports-size}
-use Rattle.transcript.specs.Replay.{room, itemOf, itemsOf, refused, eventResult}
+use Rattle.answers.proofs.Bounds.{Bytes}
+use Rattle.script.specs.declared.line.Line.{Line}
+use Rattle.script.specs.declared.line.Line.the-variants as line
+use Rattle.transcript.specs.Replay.{Result, room, itemOf, itemsOf, refused, eventResult, lineResult}
 use Rattle.transcript.specs.Code.{Good, Results}
 
 -- ---- the bytes of reports are those of their items
@@ -134,3 +138,39 @@ event-results d e r b c g n s =
         let p = s .refused (omega arith) in
         subst (λ (z : Answered). Results z c (refused (tables d) (suc k))) (sym (p .0 ∙ ap (λ (m : ℕ). record { detector = d; reply = Refused m }) q))
         (refused-results d (suc k) c g (omega (arith, refusal-small (tables d) room e)))
+
+-- ---- where the ways of a line meet: what is answered, and a buffer of bytes, as long as before
+
+pub record Met (d : Detector) (l : Line) (b : List ℕ) (s : Detector) (y : Reply) (c : List ℕ) : Type 0 where
+  pub results : Results (record { detector = s; reply = y }) c (lineResult (tables d) l)
+  pub long : length c ≡ length b
+  pub bytes : Bytes c
+
+module _ {d : Detector} {l : Line} {b : List ℕ} (g : Good d) (n : length b ≡ room) where
+  meet : {s z : Detector} {y q : Reply} {c e : List ℕ} {a : Result} → c ≡ e → s ≡ z → y ≡ q → lineResult (tables d) l ≡ a → Results (record { detector = z; reply = q }) e a → length e ≡ length b → Bytes e → Met d l b s y c
+  meet {s} {z} {y} {q} {c} {e} {a} c≡ s≡ y≡ a≡ r w k =
+      record {
+        results = rw (c≡, s≡, y≡, a≡) r;
+        long = ap length c≡ ∙ w;
+        bytes = subst Bytes (sym c≡) k;
+      }
+
+  -- the event x by its rule
+  pub met-served : {e x : Event} {k : ℕ} {r : Done} {c z : List ℕ} {s : Detector} {y : Reply} → l ≡ line.Event e → k ≡ refusal (tables d) (length b) e → k ≡ 0 → e ≡ x → Does r b z (apply x (tables d))
+      → length z ≡ length b → Bytes z → c ≡ z → s ≡ r .detector → y ≡ Reports (r .reports) → Met d l b s y c
+  met-served {e} {x} {k} {r} {c} {z} h q o u p w t c≡ s≡ y≡ =
+      let none : refusal (tables d) room x ≡ 0 = ap₂ (λ (m : ℕ) (v : Event). refusal (tables d) m v) (sym n) (sym u) ∙ sym q ∙ o in
+      meet c≡ s≡ (y≡ ∙ ap Reports (p .count)) (ap (lineResult (tables d)) (h ∙ ap line.Event u) ∙ ap (eventResult (tables d) x) none)
+      (served-results d x (r .detector) b z g n none (record { state = p .state; count = refl; bytes = p .bytes; valid = p .valid })) w t
+
+  pub met-refused : {e : Event} {k : ℕ} {c : List ℕ} {s : Detector} {y : Reply} → Bytes b → l ≡ line.Event e → k ≡ refusal (tables d) (length b) e → (k ≡ 0 → ⊥) → c ≡ b → s ≡ d → y ≡ Refused k → Met d l b s y c
+  met-refused {e} {k} t h q o c≡ s≡ y≡ =
+      let same : refusal (tables d) room e ≡ k = ap (λ (m : ℕ). refusal (tables d) m e) (sym n) ∙ sym q in
+      meet c≡ s≡ y≡ (ap (lineResult (tables d)) h ∙ ap (eventResult (tables d) e) same ∙ go k o) (refused-results d k b g (omega (arith, refusal-small (tables d) room e))) refl t
+    where
+      go : (k : ℕ) → (k ≡ 0 → ⊥) → eventResult (tables d) e k ≡ refused (tables d) k
+      go zero o = absurd (o refl)
+      go (suc k) o = refl
+
+  pub met-unread : {c : List ℕ} {s : Detector} {y : Reply} → Bytes b → l ≡ line.Unread → c ≡ b → s ≡ d → y ≡ Refused 1 → Met d l b s y c
+  met-unread t h c≡ s≡ y≡ = meet c≡ s≡ y≡ (ap (lineResult (tables d)) h) (refused-results d 1 b g (omega arith)) refl t

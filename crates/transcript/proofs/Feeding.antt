@@ -2,7 +2,7 @@
 use mathlib.Core.Path.{_≡_, refl, sym, ap, ap₂, _∙_, subst}
 use mathlib.Core.Bool.{true}
 use mathlib.Core.List.{List, [], _∷_, _++_, append-nil}
-use Prim.Native.Nat.{ℕ, _+_, _<_, _≤_}
+use Prim.Native.Nat.{ℕ, _+_, _*_, _-_, _<_, _≤_}
 use native.Mathlib.Omega.{arith}
 use borrow.Author.Tests.{lt-ltb, le-ltb}
 use lib.Dec.{ltb}
@@ -39,6 +39,7 @@ pub record Going (m : Mid) (chunk : List ℕ) (from : ℕ) (out : List ℕ) (at 
   pub after : midOf r carry ≡ fed m (between from i chunk)
   pub text : Put out at (says m (between from i chunk)) out′ to
   pub place : to ≤ length out
+  pub short : to ≤ at + answerRoom * (i - from)
 
 pub going-none : (chunk : List ℕ) (from : ℕ) (out : List ℕ) (at : ℕ) (carry : List ℕ) (r : code.Run) → Kept r carry → from ≤ length chunk → at ≤ length out
     → Going (midOf r carry) chunk from out at carry out r from at
@@ -51,6 +52,7 @@ going-none chunk from out at carry r k h w =
       after = sym (ap (fed (midOf r carry)) (slice-empty from chunk));
       text = subst (λ (s : List ℕ). Put out at s out at) (sym (ap (says (midOf r carry)) (slice-empty from chunk))) (record { bytes = refl; place = omega arith });
       place = w;
+      short = omega arith;
     }
 
 module _ {m : Mid} {chunk : List ℕ} {from : ℕ} {out : List ℕ} {at : ℕ} {carry out′ : List ℕ} {r : code.Run} {i to : ℕ} (g : Going m chunk from out at carry out′ r i to) where
@@ -66,6 +68,7 @@ module _ {m : Mid} {chunk : List ℕ} {from : ℕ} {out : List ℕ} {at : ℕ} {
             (ap (λ (n : Mid). says m (between from i chunk) ++ says n (between i (t .next) chunk)) (g .after) ∙ sym (says-append m (between from i chunk) (between i (t .next) chunk)) ∙ sym (ap (says m) cut))
             (then (g .text) (s .text));
         place = omega (arith, s .place);
+        short = omega (arith, s .place, s .onward, g .onward, g .short);
       }
 
   pub going-done : (i < length chunk → r .lines < limit → length out < to + answerRoom) → (r₀ : code.Run) (carry₀ : List ℕ) → m ≡ midOf r₀ carry₀
@@ -78,8 +81,23 @@ module _ {m : Mid} {chunk : List ℕ} {from : ℕ} {out : List ℕ} {at : ℕ} {
         after = g .after ∙ ap (λ (n : Mid). fed n (between from i chunk)) e;
         text = subst (λ (n : Mid). Put out at (says n (between from i chunk)) out′ to) e (g .text);
         place = g .place;
+        short = g .short;
         stops = h;
       }
+
+-- a call moves on
+pub feeds-move : {r : code.Run} {carry chunk : List ℕ} {from : ℕ} {out : List ℕ} {at : ℕ} {t : Turned} {carry′ out′ : List ℕ} → Feeds r carry chunk from out at t carry′ out′
+    → from < length chunk → r .lines < limit → at + answerRoom ≤ length out → from < t .next
+unfolding fed says
+feeds-move {r} {carry} {chunk} {from} {out} {at} {t} {carry′} {out′} f h k w = go (ℕ-discrete from (t .next))
+  where
+    go : Dec (from ≡ t .next) → from < t .next
+    go (no n) = omega (arith, n, f .onward)
+    go (yes e) =
+        let cut : between from (t .next) chunk ≡ [] = ap (λ (j : ℕ). between from j chunk) (sym e) ∙ slice-empty from chunk in
+        let same : t .run .lines ≡ r .lines = ap (λ (m : Mid). m .run .lines) (f .after ∙ ap (fed (midOf r carry)) cut) in
+        let here : t .at ≡ at + length (says (midOf r carry) []) = f .text .place ∙ ap (λ (z : List ℕ). at + length (says (midOf r carry) z)) cut in
+        absurd (omega (arith, f .stops (omega arith) (omega arith), here))
 
 -- ---- the end
 
@@ -101,11 +119,11 @@ ends-line [] r h e = absurd (omega arith)
 ends-line (b ∷ p) r h e = rw (e, append-nil)
 
 -- the last line lacks its line feed
-pub ends-more : (r : code.Run) (carry carry′ out out₁ out₂ : List ℕ) (at k : ℕ) (t : Turned) → Kept r carry → (r .have ≡ 0 → ⊥) → (r .lines ≡ limit → ⊥)
-    → Turns r carry (lineFeed ∷ []) 0 out at t carry′ out₁ → Put out₁ (t .at) (lastText (runOf (t .run))) out₂ k × (k ≤ t .at + endRoom)
+pub ends-more : (r : code.Run) (carry carry′ out out₁ out₂ : List ℕ) (at k : ℕ) (t : Turned) → Kept r carry → (r .have ≡ 0 → ⊥) → (r .lines ≡ limit → ⊥) → at + answerRoom ≤ length out
+    → Feeds r carry (lineFeed ∷ []) 0 out at t carry′ out₁ → Put out₁ (t .at) (lastText (runOf (t .run))) out₂ k × (k ≤ t .at + endRoom)
     → Put out at (ends (midOf r carry)) out₂ k × (k ≤ at + answerRoom + endRoom)
-ends-more r carry carry′ out out₁ out₂ at k t g h n s p =
-    let one : t .next ≡ 1 = omega (arith, s .onward, s .inside) in
+ends-more r carry carry′ out out₁ out₂ at k t g h n w s p =
+    let one : t .next ≡ 1 = omega (arith, feeds-move s (omega arith) (omega (arith, g .lines, n)) w, s .inside) in
     let cut : between 0 (t .next) (lineFeed ∷ []) ≡ lineFeed ∷ [] = ap (λ (j : ℕ). between 0 j (lineFeed ∷ [])) one in
     let some : 0 < length (take (r .have) carry) = omega (arith, length-take (r .have) carry, g .long, h) in
     let free : ltb (r .lines) limit ≡ true = lt-ltb (r .lines) limit (omega (arith, g .lines, n)) in
@@ -113,10 +131,10 @@ ends-more r carry carry′ out out₁ out₂ at k t g h n s p =
       subst (λ (z : List ℕ). Put out at z out₂ k)
           (ap₂ (λ (c : List ℕ) (u : Run). says (midOf r carry) c ++ lastText u) cut last ∙ sym (ends-line (take (r .have) carry) (runOf r) some free))
           (then (s .text) (p .0)),
-      omega (arith, p .1, s .place),
+      omega (arith, p .1, s .short),
     )
 
--- ---- the start, and that a call moves on
+-- ---- the start
 
 pub begins : (d : Detector) → tables d ≡ empty → Valid d → Begins (record { detector = d; lines = 0; have = 0 })
 unfolding reach
@@ -129,16 +147,3 @@ begins d e v =
 
 pub begins-kept : {r : code.Run} {carry : List ℕ} → Begins r → length carry ≡ 41 → Kept r carry
 begins-kept b h = record { good = b .good; lines = omega (arith, ap (λ (u : Run). u .lines) (b .run)); have = omega (arith, b .have); long = h }
-
-pub feeds-move : {r : code.Run} {carry chunk : List ℕ} {from : ℕ} {out : List ℕ} {at : ℕ} {t : Turned} {carry′ out′ : List ℕ} → Feeds r carry chunk from out at t carry′ out′
-    → from < length chunk → r .lines < limit → at + answerRoom ≤ length out → from < t .next
-unfolding fed says
-feeds-move {r} {carry} {chunk} {from} {out} {at} {t} {carry′} {out′} f h k w = go (ℕ-discrete from (t .next))
-  where
-    go : Dec (from ≡ t .next) → from < t .next
-    go (no n) = omega (arith, n, f .onward)
-    go (yes e) =
-        let cut : between from (t .next) chunk ≡ [] = ap (λ (j : ℕ). between from j chunk) (sym e) ∙ slice-empty from chunk in
-        let same : t .run .lines ≡ r .lines = ap (λ (m : Mid). m .run .lines) (f .after ∙ ap (fed (midOf r carry)) cut) in
-        let here : t .at ≡ at + length (says (midOf r carry) []) = f .text .place ∙ ap (λ (z : List ℕ). at + length (says (midOf r carry) z)) cut in
-        absurd (omega (arith, f .stops (omega arith) (omega arith), here))

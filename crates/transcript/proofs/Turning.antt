@@ -2,7 +2,7 @@
 use mathlib.Core.Path.{_≡_, refl, sym, ap, ap₂, _∙_, subst}
 use mathlib.Core.Bool.{Bool, true, false, cond}
 use mathlib.Core.List.{List, [], _∷_, _++_, append-nil}
-use Prim.Native.Nat.{ℕ, suc, _+_, _-_, _<_, _≤_}
+use Prim.Native.Nat.{ℕ, suc, _+_, _-_, _<_, _≤_, _^_}
 use native.Mathlib.Omega.{arith}
 use borrow.Author.Tests.{lt-ltb, eqb-true}
 use lib.Dec.{eqb, ltb}
@@ -14,12 +14,13 @@ use Rattle.script.proofs.Cut.{take-upTo}
 use Rattle.detector.specs.Tables.{Tables}
 use Rattle.detector.specs.State.{tables}
 use Rattle.detector.specs.declared.reply.Answered.{Answered}
-use Rattle.answers.specs.Text.{Put}
-use Rattle.answers.specs.Answers.{replyText, cyclesText, answerText, answerRoom}
+use Rattle.answers.specs.Text.{Room, Put}
+use Rattle.answers.specs.Answers.{reports, replyText, cyclesText, answerText, Held, answerRoom}
+use Rattle.answers.proofs.Bounds.{Bytes, answer-room, answer-bound}
 use Rattle.answers.specs.Reports.{Entry}
 use Rattle.detector.specs.declared.reply.Reply.{Reply}
 use Rattle.transcript.specs.Lines.{lineFeed}
-use Rattle.transcript.specs.Replay.{Run, Result, limit, lineResult, resultOf, resultText, after, lineText}
+use Rattle.transcript.specs.Replay.{Run, Result, room, limit, lineResult, resultOf, resultText, after, lineText}
 use Rattle.transcript.specs.Chunks.{Mid, mid, step, said, fed, says}
 use Rattle.transcript.specs.Code.{Good, Results, runOf, Kept, Turns, between}
 use Rattle.transcript.specs.declared.run.Run as code
@@ -148,9 +149,20 @@ module _ (have : ℕ) (carry : List ℕ) (r : Run) (small : have ≤ 41) (more :
 
 -- ---- the line's answer
 
-pub answer-result : (n : ℕ) (y : Answered) (b : List ℕ) (a : Result) → Results y b a → answerText n (y .reply) b ≡ resultText n a
+answer-result : (n : ℕ) (y : Answered) (b : List ℕ) (a : Result) → Results y b a → answerText n (y .reply) b ≡ resultText n a
 unfolding answerText
 answer-result n y b a h = ap₂ (λ (q : Reply) (c : List (List Entry)). replyText n q ++ cyclesText c) (h .reply) (h .cycles)
+
+-- there is room for it, and what is put is the result's text
+module _ (n : ℕ) (a : Answered) (b : List ℕ) (q : Result) (small : n < 2 ^ 64) (bytes : Bytes b) (s : Results a b q) (out : List ℕ) (at : ℕ) where
+  pub told-room : length b ≡ room → at + answerRoom ≤ length out → Held (reports (a .reply)) b × Room out at (answerText n (a .reply) b)
+  told-room h w = (omega (arith, s .held), answer-room out at n (a .reply) b small (omega (arith, s .small)) bytes (s .few) (s .held) w)
+
+  pub told-line : (out′ : List ℕ) (to : ℕ) → Put out at (answerText n (a .reply) b) out′ to
+      → Good (a .detector) × (tables (a .detector) ≡ q .tables) × Put out at (resultText n q) out′ to × (to ≤ at + answerRoom)
+  told-line out′ to p =
+      let w = answer-bound n (a .reply) b small (omega (arith, s .small)) bytes (s .few) (s .held) in
+      (s .good, s .state, subst (λ (t : List ℕ). Put out at t out′ to) (answer-result n a b q s) p, omega (arith, p .place, w))
 
 pub after-line : (r : Run) (l : List ℕ) (x : Tables) (n : ℕ) → n ≡ r .lines + 1 → x ≡ lineResult (r .tables) (lineOf l) .tables → mid [] (record { lines = n; tables = x }) ≡ mid [] (after r l)
 unfolding after resultOf

@@ -1,7 +1,7 @@
 -- What the calls promise: the code's run means a middle of the text, and each turn is a step of it.
 use mathlib.Core.Path.{_≡_}
 use mathlib.Core.List.{List}
-use Prim.Native.Nat.{ℕ, _+_, _<_, _≤_}
+use Prim.Native.Nat.{ℕ, _+_, _*_, _-_, _<_, _≤_}
 use lib.ListN.{length, take, drop}
 use Rattle.detector.specs.State.{tables, Valid}
 use Rattle.detector.specs.declared.state.Detector.{Detector}
@@ -64,7 +64,8 @@ pub record Turns (r : Run) (carry chunk : List ℕ) (from : ℕ) (out : List ℕ
   pub text : Put out at (says (midOf r carry) (between from (t .next) chunk)) out′ (t .at)
   pub place : t .at ≤ at + answerRoom
 
--- TURNS, one after the other, up to the chunk's end, the last line that is read, or where the longest answer has no room
+-- TURNS, one after the other, up to the chunk's end, the last line that is read, or where the longest answer has no room;
+-- each prints at most the longest answer
 pub record Feeds (r : Run) (carry chunk : List ℕ) (from : ℕ) (out : List ℕ) (at : ℕ) (t : Turned) (carry′ out′ : List ℕ) : Type 0 where
   pub kept : Kept (t .run) carry′
   pub onward : from ≤ t .next
@@ -72,4 +73,5 @@ pub record Feeds (r : Run) (carry chunk : List ℕ) (from : ℕ) (out : List ℕ
   pub after : midOf (t .run) carry′ ≡ fed (midOf r carry) (between from (t .next) chunk)
   pub text : Put out at (says (midOf r carry) (between from (t .next) chunk)) out′ (t .at)
   pub place : t .at ≤ length out
+  pub short : t .at ≤ at + answerRoom * (t .next - from)
   pub stops : t .next < length chunk → t .run .lines < limit → length out < t .at + answerRoom

@@ -1,7 +1,7 @@
 // The text's end: a last line that lacks its line feed, and the sums.
 use crate::run::LIMIT;
 use crate::run::Run;
-use crate::run::take_turn;
+use crate::run::feed;
 use answers::put_end;
 use detector::Detector;
 ghost use mathlib.Core.Path.{_≡_};
@@ -39,7 +39,7 @@ pub fn finish(run: Run, carry: &mut [u8], out: &mut [u8], at: usize, buf: &mut [
     if run.lines == LIMIT {
         return put_sums(s, run.lines, out, at);
     }
-    let t = take_turn(run, carry, b"\n", 0, out, at, buf);
+    let t = feed(run, carry, b"\n", 0, out, at, buf);
     let r = t.run;
     let d = r.detector;
     put_sums(d, r.lines, out, t.at)

@@ -4,7 +4,11 @@ use crate::lines::keep;
 use crate::lines::line_end;
 use crate::lines::line_of;
 use answers::ANSWER_ROOM;
+use answers::put_answer;
 use detector::Detector;
+use detector::Event;
+use detector::Reply;
+use script::Line;
 ghost use mathlib.Core.Path.{_≡_};
 ghost use Prim.Native.Nat.{_+_, _<_, _≤_};
 ghost use lib.ListN.{length};
@@ -85,7 +89,8 @@ pub fn take_turn(
     }
 }
 
-// Turn after turn, while the chunk has bytes, a line may be read and the longest answer has room.
+// Line after line, while the chunk has bytes, a line may be read and the longest answer has room. The dispatch on the
+// event stands in the loop for speed: the state is too large to pass through a call for each line.
 pub fn feed(
     run: Run,
     carry: &mut [u8],
@@ -99,32 +104,158 @@ pub fn feed(
     requires { ⌜ (from ≤ length (now chunk)) × (at ≤ length (now out)) ⌝ }
     ensures { λ r. ⌜ Feeds run (now (carry .entry)) (now (chunk .entry)) from (now (out .entry)) at r (now (carry .exit)) (now (out .exit)) ⌝ }
 {
-    let mut r = run;
+    let mut s = run.detector;
+    let mut n = run.lines;
+    let mut h = run.have;
     let mut i = from;
     let mut to = at;
     while i < chunk.len() {
-        if r.lines == LIMIT {
+        if n == LIMIT {
             return Turned {
-                run: r,
+                run: Run {
+                    detector: s,
+                    lines: n,
+                    have: h,
+                },
                 next: i,
                 at: to,
             };
         }
         if out.len() - to < ANSWER_ROOM {
             return Turned {
-                run: r,
+                run: Run {
+                    detector: s,
+                    lines: n,
+                    have: h,
+                },
                 next: i,
                 at: to,
             };
         }
-        let t = take_turn(r, carry, chunk, i, out, to, buf);
-        let n = t.run;
-        r = n;
-        i = t.next;
-        to = t.at;
+        let end = line_end(chunk, i);
+        if end == chunk.len() {
+            let k = keep(carry, h, &chunk[i..end]);
+            return Turned {
+                run: Run {
+                    detector: s,
+                    lines: n,
+                    have: k,
+                },
+                next: end,
+                at: to,
+            };
+        }
+        let line = line_of(carry, h, &chunk[i..end]);
+        let mut reply = Reply::Refused(1);
+        if let Line::Event(e) = line {
+            let k = s.refusal(e, buf.len());
+            reply = Reply::Refused(k);
+            if k == 0 {
+                match e {
+                    Event::MutexAttempt(t, l, o) => {
+                        let d = s.acquire_slow_with_recheck(t, l, o, buf);
+                        s = d.detector;
+                        reply = Reply::Reports(d.reports);
+                    }
+                    Event::MutexAcquired(t, l) => {
+                        let d = s.complete_acquire(t, l, buf);
+                        s = d.detector;
+                        reply = Reply::Reports(d.reports);
+                    }
+                    Event::MutexReleased(t, l) => {
+                        let d = s.release_mutex(t, l);
+                        s = d.detector;
+                        reply = Reply::Reports(d.reports);
+                    }
+                    Event::MutexExit(l) => {
+                        let d = s.destroy_mutex(l);
+                        s = d.detector;
+                        reply = Reply::Reports(d.reports);
+                    }
+                    Event::RwReadAttempt(t, l, o) => {
+                        let d = s.acquire_read_slow_with_recheck(t, l, o, buf);
+                        s = d.detector;
+                        reply = Reply::Reports(d.reports);
+                    }
+                    Event::RwReadAcquired(t, l) => {
+                        let d = s.complete_read(t, l);
+                        s = d.detector;
+                        reply = Reply::Reports(d.reports);
+                    }
+                    Event::RwReadTry(t, l, o) => {
+                        let d = s.try_read_nonblocking(t, l, o);
+                        s = d.detector;
+                        reply = Reply::Reports(d.reports);
+                    }
+                    Event::RwReadReleased(t, l) => {
+                        let d = s.release_read(t, l);
+                        s = d.detector;
+                        reply = Reply::Reports(d.reports);
+                    }
+                    Event::RwWriteAttempt(t, l, o) => {
+                        let d = s.acquire_write_slow_with_recheck(t, l, o, buf);
+                        s = d.detector;
+                        reply = Reply::Reports(d.reports);
+                    }
+                    Event::RwWriteAcquired(t, l) => {
+                        let d = s.complete_write(t, l, buf);
+                        s = d.detector;
+                        reply = Reply::Reports(d.reports);
+                    }
+                    Event::RwWriteReleased(t, l) => {
+                        let d = s.release_write(t, l);
+                        s = d.detector;
+                        reply = Reply::Reports(d.reports);
+                    }
+                    Event::RwExit(l) => {
+                        let d = s.destroy_rwlock(l);
+                        s = d.detector;
+                        reply = Reply::Reports(d.reports);
+                    }
+                    Event::CondvarSpawn(c) => {
+                        let d = s.create_condvar(c);
+                        s = d.detector;
+                        reply = Reply::Reports(d.reports);
+                    }
+                    Event::CondvarExit(c) => {
+                        let d = s.destroy_condvar(c);
+                        s = d.detector;
+                        reply = Reply::Reports(d.reports);
+                    }
+                    Event::CondvarWaitBegin(t, c, l) => {
+                        let d = s.begin_wait(t, c, l);
+                        s = d.detector;
+                        reply = Reply::Reports(d.reports);
+                    }
+                    Event::CondvarNotifyOne(c) => {
+                        let d = s.notify_one(c, buf);
+                        s = d.detector;
+                        reply = Reply::Reports(d.reports);
+                    }
+                    Event::CondvarNotifyAll(c) => {
+                        let d = s.notify_all(c, buf);
+                        s = d.detector;
+                        reply = Reply::Reports(d.reports);
+                    }
+                    Event::CondvarWaitEnd(t, c, l) => {
+                        let d = s.end_wait(t, c, l);
+                        s = d.detector;
+                        reply = Reply::Reports(d.reports);
+                    }
+                }
+            }
+        }
+        n = n + 1;
+        to = put_answer(out, to, n, reply, buf);
+        h = 0;
+        i = end + 1;
     }
     Turned {
-        run: r,
+        run: Run {
+            detector: s,
+            lines: n,
+            have: h,
+        },
         next: i,
         at: to,
     }

@@ -1,5 +1,5 @@
-use Rattle.transcript.proofs.Turning.{answer-result}
-use Rattle.answers.proofs.Bounds.{answer-room, answer-bound}
+use Rattle.transcript.proofs.Turning.{told-room, told-line}
+use mathlib.Core.Path.{_∙_}
 use borrow.Author.Needs.{needs}
 use Prim.Native.Nat.{_<_, _^_}
 use native.Mathlib.Omega.{arith}
@@ -13,10 +13,8 @@ put-answer-requires : tie.Need-put-answer-requires
 put-answer-requires c κs =
     let s = c .before .before .before .before .before .before .before .before .before in
     let a = c .before .before .before .before .before .answer-line in
-    let n : s .args .number < 2 ^ 64 = search needs in (
-      omega (arith, a .ensures .held, a .kept .1 .1 .0, s .pre .1),
-      answer-room _ _ _ _ _ n (omega (arith, a .ensures .small)) (λ i. omega (arith, c .before .before .before .slice-known3 .given i)) (a .ensures .few) (a .ensures .held) (s .pre .2),
-    )
+    let n : s .args .number < 2 ^ 64 = search needs in
+    told-room _ _ _ _ n (λ i. omega (arith, c .before .before .before .slice-known3 .given i)) (a .ensures) _ _ (a .kept .1 .1 .0 ∙ s .pre .1) (s .pre .2)
 
 same-length : tie.Need-same-length
 same-length c = search needs
@@ -28,10 +26,8 @@ returns : tie.Need-returns
 returns c =
     let s = c .before .before .before .before .before .before .before .before .before .before .before .before in
     let a = c .before .before .before .before .before .before .before .before .answer-line in
-    let p = c .before .before .put-answer .ensures in
     let n : s .args .number < 2 ^ 64 = search needs in
-    let w = answer-bound (s .args .number) (a .result .reply) (a .last .1 .1 .0) n (omega (arith, a .ensures .small)) (λ i. omega (arith, c .before .before .before .before .before .before .slice-known3 .given i)) (a .ensures .few) (a .ensures .held) in
-    (a .ensures .good, a .ensures .state, rw (← answer-result _ _ _ _ (a .ensures)) p, omega (arith, p .place, w))
+    told-line _ _ _ _ n (λ i. omega (arith, c .before .before .before .before .before .before .slice-known3 .given i)) (a .ensures) _ _ _ _ (c .before .before .put-answer .ensures)
 
 pub tell-line-spec : {M : Type 1} → statement M
 tell-line-spec =

@@ -27,19 +27,19 @@ returns-2 c =
     let p = c .before .before .put-sums2 .ensures in
     (rw (ends-full (c .before .before .before .before .before .before .before .before .before .before .before .before .args .run) (c .before .before .before .before .before .before .before .before .before .before .before .before .args .carry .now) (c .before .before .before .before .if2 .taken)) (p .0), omega (arith, p .1))
 
-slice-aggregate-take-turn : tie.Need-slice-aggregate-take-turn
-slice-aggregate-take-turn c = search needs
+slice-aggregate-feed : tie.Need-slice-aggregate-feed
+slice-aggregate-feed c = search needs
 
-take-turn-requires : tie.Need-take-turn-requires
-take-turn-requires c κs =
+feed-requires : tie.Need-feed-requires
+feed-requires c κs =
     let s = c .before .before .before .before .before .before .before .before .before .before .before .before in
-    ((s .pre .0, omega (arith, s .pre .0 .lines, c .before .before .before .before .if2 .left), s .pre .1), (omega arith, omega (arith, s .pre .2)))
+    ((s .pre .0, s .pre .1), (omega arith, omega (arith, s .pre .2)))
 
 put-sums-requires-3 : tie.Need-put-sums-requires-3
 put-sums-requires-3 c κs =
     let s = c .before .before .before .before .before .before .before .before .before .before .before .before .before .before .before .before .before .before .before .before .before .before in
-    let t = c .before .before .before .before .before .before .before .before .before .take-turn in
-    (t .ensures .kept .good .valid, t .ensures .kept .lines, omega (arith, t .ensures .place, t .kept .1 .1 .1 .1 .0, s .pre .2))
+    let t = c .before .before .before .before .before .before .before .before .before .feed in
+    (t .ensures .kept .good .valid, t .ensures .kept .lines, omega (arith, t .ensures .short, t .ensures .inside, t .kept .1 .1 .1 .1 .0, s .pre .2))
 
 same-length-3 : tie.Need-same-length-3
 same-length-3 c = search needs
@@ -53,9 +53,9 @@ same-length-5 c = search needs
 returns-3 : tie.Need-returns-3
 returns-3 c =
     let s = c .before .before .before .before .before .before .before .before .before .before .before .before .before .before .before .before .before .before .before .before .before .before .before .before .before in
-    let t = c .before .before .before .before .before .before .before .before .before .before .before .before .take-turn in
+    let t = c .before .before .before .before .before .before .before .before .before .before .before .before .feed in
     let p = c .before .before .put-sums3 in
-    ends-more (s .args .run) (s .args .carry .now) _ (s .args .out .now) (t .last .1 .1 .1 .1 .0) _ (s .args .at) _ (t .result) (s .pre .0) (c .before .before .before .before .before .before .before .before .before .before .before .before .before .before .before .before .before .before .before .if1 .left) (c .before .before .before .before .before .before .before .before .before .before .before .before .before .before .before .before .before .if2 .left) (t .ensures) (p .ensures)
+    ends-more (s .args .run) (s .args .carry .now) _ (s .args .out .now) (t .last .1 .1 .1 .1 .0) _ (s .args .at) _ (t .result) (s .pre .0) (c .before .before .before .before .before .before .before .before .before .before .before .before .before .before .before .before .before .before .before .if1 .left) (c .before .before .before .before .before .before .before .before .before .before .before .before .before .before .before .before .before .if2 .left) (omega (arith, s .pre .2)) (t .ensures) (p .ensures)
 
 pub finish-spec : {M : Type 1} → statement M
 finish-spec =
@@ -67,8 +67,8 @@ finish-spec =
     put-sums-requires-2
     same-length-2
     returns-2
-    slice-aggregate-take-turn
-    take-turn-requires
+    slice-aggregate-feed
+    feed-requires
     put-sums-requires-3
     same-length-3
     same-length-4
