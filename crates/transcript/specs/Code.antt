@@ -65,7 +65,7 @@ pub record Turns (r : Run) (carry chunk : List ℕ) (from : ℕ) (out : List ℕ
   pub place : t .at ≤ at + answerRoom
 
 -- TURNS, one after the other, up to the chunk's end, the last line that is read, or where the longest answer has no room;
--- each prints at most the longest answer
+-- no byte prints more than the longest answer
 pub record Feeds (r : Run) (carry chunk : List ℕ) (from : ℕ) (out : List ℕ) (at : ℕ) (t : Turned) (carry′ out′ : List ℕ) : Type 0 where
   pub kept : Kept (t .run) carry′
   pub onward : from ≤ t .next

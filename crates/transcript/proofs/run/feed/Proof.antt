@@ -4,12 +4,12 @@ use Rattle.transcript.proofs.Feeding.{Going, going-none, going-turn, go
 use Rattle.transcript.specs.Replay.{room}
 use Rattle.transcript.specs.Code.{midOf}
 use Rattle.answers.proofs.Bounds.{Bytes}
-use Rattle.detector.specs.State.{tables}
-use Rattle.detector.proofs.Numbers.{accepted, room-left}
+use Rattle.detector.specs.State.{tables, Valid}
+use Rattle.detector.proofs.Numbers.{Accepted, accepted, room-left}
 use Rattle.detector.proofs.Promises.{not-full}
 use borrow.Author.Needs.{needs}
 use mathlib.Core.Path.{_≡_, refl, sym, _∙_}
-use mathlib.Core.Logic.{⊎-elim}
+use mathlib.Core.Logic.{inl, inr}
 use Prim.Native.Nat.{_-_, _<_, _^_}
 use native.Mathlib.Omega.{arith}
 use lib.ListN.{length}
@@ -103,185 +103,174 @@ enum-known-line c = search needs
 refusal-requires : tie.Need-refusal-requires Inv-loop μ-loop
 refusal-requires c κs = c .before .before .before .before .before .before .before .before .before .before .before .before .before .loop .inv .0 .kept .good .valid
 
+-- the state is valid, and the event is not refused
+valid : (c : tie.Then4 Inv-loop μ-loop) → Valid (c .before .before .before .before .before .before .before .before .before .before .before .before .before .before .before .loop .s)
+valid c = c .before .before .before .before .before .before .before .before .before .before .before .before .before .before .before .loop .inv .0 .kept .good .valid
+
+not-refused : (c : tie.Then4 Inv-loop μ-loop) → Accepted (tables (c .before .before .before .before .before .before .before .before .before .before .before .before .before .before .before .loop .s)) (length (c .before .before .before .before .before .before .before .before .before .before .before .before .before .before .before .loop .buf)) (c .before .before .before .line .given .0 .0)
+not-refused c = accepted _ _ _ (sym (c .before .refusal .ensures) ∙ c .if4 .taken)
+
 enum-known-e : tie.Need-enum-known-e Inv-loop μ-loop
 enum-known-e c = search needs
 
 acquire-slow-with-recheck-requires : tie.Need-acquire-slow-with-recheck-requires Inv-loop μ-loop
 acquire-slow-with-recheck-requires c κs =
-    let l = c .before .before .before .before .before .before .before .before .before .before .before .before .before .before .before .before .before .before .before .loop in
-    let v = l .inv .0 .kept .good .valid in
-    let a = rw (c .before .before .e .given .1) at (accepted (tables (l .s)) _ _ (sym (c .before .before .before .before .before .refusal .ensures) ∙ c .before .before .before .before .if4 .taken)) in
-    (v, a .inside .thread, a .inside .lock, a .inside .hint, a .inside .room)
+    let u = c .before .before .before .before in
+    let a = rw (c .before .before .e .given .1) at (not-refused u) in
+    (valid u, a .inside .thread, a .inside .lock, a .inside .hint, a .inside .room)
 
 enum-known-e-2 : tie.Need-enum-known-e-2 Inv-loop μ-loop
 enum-known-e-2 c = search needs
 
 complete-acquire-requires : tie.Need-complete-acquire-requires Inv-loop μ-loop
 complete-acquire-requires c κs =
-    let l = c .before .before .before .before .before .before .before .before .before .before .before .before .before .before .before .before .before .before .before .loop in
-    let v = l .inv .0 .kept .good .valid in
-    let a = rw (c .before .before .e2 .given .1) at (accepted (tables (l .s)) _ _ (sym (c .before .before .before .before .before .refusal .ensures) ∙ c .before .before .before .before .if4 .taken)) in
-    (v, a .inside .thread, a .inside .lock, a .inside .room)
+    let u = c .before .before .before .before in
+    let a = rw (c .before .before .e2 .given .1) at (not-refused u) in
+    (valid u, a .inside .thread, a .inside .lock, a .inside .room)
 
 enum-known-e-3 : tie.Need-enum-known-e-3 Inv-loop μ-loop
 enum-known-e-3 c = search needs
 
 release-mutex-requires : tie.Need-release-mutex-requires Inv-loop μ-loop
 release-mutex-requires c κs =
-    let l = c .before .before .before .before .before .before .before .before .before .before .before .before .before .before .before .before .before .before .loop in
-    let v = l .inv .0 .kept .good .valid in
-    let a = rw (c .before .e3 .given .1) at (accepted (tables (l .s)) _ _ (sym (c .before .before .before .before .refusal .ensures) ∙ c .before .before .before .if4 .taken)) in
-    (v, a .inside .thread, a .inside .lock)
+    let u = c .before .before .before in
+    let a = rw (c .before .e3 .given .1) at (not-refused u) in
+    (valid u, a .inside .thread, a .inside .lock)
 
 enum-known-e-4 : tie.Need-enum-known-e-4 Inv-loop μ-loop
 enum-known-e-4 c = search needs
 
 destroy-mutex-requires : tie.Need-destroy-mutex-requires Inv-loop μ-loop
 destroy-mutex-requires c κs =
-    let l = c .before .before .before .before .before .before .before .before .before .before .before .before .before .before .before .before .before .before .loop in
-    let v = l .inv .0 .kept .good .valid in
-    let a = rw (c .before .e4 .given .1) at (accepted (tables (l .s)) _ _ (sym (c .before .before .before .before .refusal .ensures) ∙ c .before .before .before .if4 .taken)) in
-    (v, a .inside .lock)
+    let u = c .before .before .before in
+    let a = rw (c .before .e4 .given .1) at (not-refused u) in
+    (valid u, a .inside .lock)
 
 enum-known-e-5 : tie.Need-enum-known-e-5 Inv-loop μ-loop
 enum-known-e-5 c = search needs
 
 acquire-read-slow-with-recheck-requires : tie.Need-acquire-read-slow-with-recheck-requires Inv-loop μ-loop
 acquire-read-slow-with-recheck-requires c κs =
-    let l = c .before .before .before .before .before .before .before .before .before .before .before .before .before .before .before .before .before .before .before .loop in
-    let v = l .inv .0 .kept .good .valid in
-    let a = rw (c .before .before .e5 .given .1) at (accepted (tables (l .s)) _ _ (sym (c .before .before .before .before .before .refusal .ensures) ∙ c .before .before .before .before .if4 .taken)) in
-    (v, a .inside .thread, a .inside .lock, a .inside .hint, a .notFull, a .inside .room)
+    let u = c .before .before .before .before in
+    let a = rw (c .before .before .e5 .given .1) at (not-refused u) in
+    (valid u, a .inside .thread, a .inside .lock, a .inside .hint, a .notFull, a .inside .room)
 
 enum-known-e-6 : tie.Need-enum-known-e-6 Inv-loop μ-loop
 enum-known-e-6 c = search needs
 
 complete-read-requires : tie.Need-complete-read-requires Inv-loop μ-loop
 complete-read-requires c κs =
-    let l = c .before .before .before .before .before .before .before .before .before .before .before .before .before .before .before .before .before .before .loop in
-    let v = l .inv .0 .kept .good .valid in
-    let a = rw (c .before .e6 .given .1) at (accepted (tables (l .s)) _ _ (sym (c .before .before .before .before .refusal .ensures) ∙ c .before .before .before .if4 .taken)) in
-    (v, a .inside .thread, a .inside .lock, not-full (tables (l .s)) _ _ (a .notFull))
+    let u = c .before .before .before in
+    let a = rw (c .before .e6 .given .1) at (not-refused u) in
+    (valid u, a .inside .thread, a .inside .lock, not-full (tables (c .before .before .before .before .before .before .before .before .before .before .before .before .before .before .before .before .before .before .loop .s)) _ _ (a .notFull))
 
 enum-known-e-7 : tie.Need-enum-known-e-7 Inv-loop μ-loop
 enum-known-e-7 c = search needs
 
 try-read-nonblocking-requires : tie.Need-try-read-nonblocking-requires Inv-loop μ-loop
 try-read-nonblocking-requires c κs =
-    let l = c .before .before .before .before .before .before .before .before .before .before .before .before .before .before .before .before .before .before .loop in
-    let v = l .inv .0 .kept .good .valid in
-    let a = rw (c .before .e7 .given .1) at (accepted (tables (l .s)) _ _ (sym (c .before .before .before .before .refusal .ensures) ∙ c .before .before .before .if4 .taken)) in
-    (v, a .inside .thread, a .inside .lock, a .notFull)
+    let u = c .before .before .before in
+    let a = rw (c .before .e7 .given .1) at (not-refused u) in
+    (valid u, a .inside .thread, a .inside .lock, a .notFull)
 
 enum-known-e-8 : tie.Need-enum-known-e-8 Inv-loop μ-loop
 enum-known-e-8 c = search needs
 
 release-read-requires : tie.Need-release-read-requires Inv-loop μ-loop
 release-read-requires c κs =
-    let l = c .before .before .before .before .before .before .before .before .before .before .before .before .before .before .before .before .before .before .loop in
-    let v = l .inv .0 .kept .good .valid in
-    let a = rw (c .before .e8 .given .1) at (accepted (tables (l .s)) _ _ (sym (c .before .before .before .before .refusal .ensures) ∙ c .before .before .before .if4 .taken)) in
-    (v, a .inside .thread, a .inside .lock)
+    let u = c .before .before .before in
+    let a = rw (c .before .e8 .given .1) at (not-refused u) in
+    (valid u, a .inside .thread, a .inside .lock)
 
 enum-known-e-9 : tie.Need-enum-known-e-9 Inv-loop μ-loop
 enum-known-e-9 c = search needs
 
 acquire-write-slow-with-recheck-requires : tie.Need-acquire-write-slow-with-recheck-requires Inv-loop μ-loop
 acquire-write-slow-with-recheck-requires c κs =
-    let l = c .before .before .before .before .before .before .before .before .before .before .before .before .before .before .before .before .before .before .before .loop in
-    let v = l .inv .0 .kept .good .valid in
-    let a = rw (c .before .before .e9 .given .1) at (accepted (tables (l .s)) _ _ (sym (c .before .before .before .before .before .refusal .ensures) ∙ c .before .before .before .before .if4 .taken)) in
-    (v, a .inside .thread, a .inside .lock, a .inside .hint, a .inside .room)
+    let u = c .before .before .before .before in
+    let a = rw (c .before .before .e9 .given .1) at (not-refused u) in
+    (valid u, a .inside .thread, a .inside .lock, a .inside .hint, a .inside .room)
 
 enum-known-e-10 : tie.Need-enum-known-e-10 Inv-loop μ-loop
 enum-known-e-10 c = search needs
 
 complete-write-requires : tie.Need-complete-write-requires Inv-loop μ-loop
 complete-write-requires c κs =
-    let l = c .before .before .before .before .before .before .before .before .before .before .before .before .before .before .before .before .before .before .before .loop in
-    let v = l .inv .0 .kept .good .valid in
-    let a = rw (c .before .before .e10 .given .1) at (accepted (tables (l .s)) _ _ (sym (c .before .before .before .before .before .refusal .ensures) ∙ c .before .before .before .before .if4 .taken)) in
-    (v, a .inside .thread, a .inside .lock, a .inside .room)
+    let u = c .before .before .before .before in
+    let a = rw (c .before .before .e10 .given .1) at (not-refused u) in
+    (valid u, a .inside .thread, a .inside .lock, a .inside .room)
 
 enum-known-e-11 : tie.Need-enum-known-e-11 Inv-loop μ-loop
 enum-known-e-11 c = search needs
 
 release-write-requires : tie.Need-release-write-requires Inv-loop μ-loop
 release-write-requires c κs =
-    let l = c .before .before .before .before .before .before .before .before .before .before .before .before .before .before .before .before .before .before .loop in
-    let v = l .inv .0 .kept .good .valid in
-    let a = rw (c .before .e11 .given .1) at (accepted (tables (l .s)) _ _ (sym (c .before .before .before .before .refusal .ensures) ∙ c .before .before .before .if4 .taken)) in
-    (v, a .inside .thread, a .inside .lock)
+    let u = c .before .before .before in
+    let a = rw (c .before .e11 .given .1) at (not-refused u) in
+    (valid u, a .inside .thread, a .inside .lock)
 
 enum-known-e-12 : tie.Need-enum-known-e-12 Inv-loop μ-loop
 enum-known-e-12 c = search needs
 
 destroy-rwlock-requires : tie.Need-destroy-rwlock-requires Inv-loop μ-loop
 destroy-rwlock-requires c κs =
-    let l = c .before .before .before .before .before .before .before .before .before .before .before .before .before .before .before .before .before .before .loop in
-    let v = l .inv .0 .kept .good .valid in
-    let a = rw (c .before .e12 .given .1) at (accepted (tables (l .s)) _ _ (sym (c .before .before .before .before .refusal .ensures) ∙ c .before .before .before .if4 .taken)) in
-    (v, a .inside .lock)
+    let u = c .before .before .before in
+    let a = rw (c .before .e12 .given .1) at (not-refused u) in
+    (valid u, a .inside .lock)
 
 enum-known-e-13 : tie.Need-enum-known-e-13 Inv-loop μ-loop
 enum-known-e-13 c = search needs
 
 create-condvar-requires : tie.Need-create-condvar-requires Inv-loop μ-loop
 create-condvar-requires c κs =
-    let l = c .before .before .before .before .before .before .before .before .before .before .before .before .before .before .before .before .before .before .loop in
-    let v = l .inv .0 .kept .good .valid in
-    let a = rw (c .before .e13 .given .1) at (accepted (tables (l .s)) _ _ (sym (c .before .before .before .before .refusal .ensures) ∙ c .before .before .before .if4 .taken)) in
-    (v, a .inside .condvar)
+    let u = c .before .before .before in
+    let a = rw (c .before .e13 .given .1) at (not-refused u) in
+    (valid u, a .inside .condvar)
 
 enum-known-e-14 : tie.Need-enum-known-e-14 Inv-loop μ-loop
 enum-known-e-14 c = search needs
 
 destroy-condvar-requires : tie.Need-destroy-condvar-requires Inv-loop μ-loop
 destroy-condvar-requires c κs =
-    let l = c .before .before .before .before .before .before .before .before .before .before .before .before .before .before .before .before .before .before .loop in
-    let v = l .inv .0 .kept .good .valid in
-    let a = rw (c .before .e14 .given .1) at (accepted (tables (l .s)) _ _ (sym (c .before .before .before .before .refusal .ensures) ∙ c .before .before .before .if4 .taken)) in
-    (v, a .inside .condvar)
+    let u = c .before .before .before in
+    let a = rw (c .before .e14 .given .1) at (not-refused u) in
+    (valid u, a .inside .condvar)
 
 enum-known-e-15 : tie.Need-enum-known-e-15 Inv-loop μ-loop
 enum-known-e-15 c = search needs
 
 begin-wait-requires : tie.Need-begin-wait-requires Inv-loop μ-loop
 begin-wait-requires c κs =
-    let l = c .before .before .before .before .before .before .before .before .before .before .before .before .before .before .before .before .before .before .loop in
-    let v = l .inv .0 .kept .good .valid in
-    let a = rw (c .before .e15 .given .1) at (accepted (tables (l .s)) _ _ (sym (c .before .before .before .before .refusal .ensures) ∙ c .before .before .before .if4 .taken)) in
-    (v, a .inside .thread, a .inside .condvar, a .inside .lock, room-left (l .s) _ v (a .inside .condvar) (a .notFull))
+    let u = c .before .before .before in
+    let a = rw (c .before .e15 .given .1) at (not-refused u) in
+    (valid u, a .inside .thread, a .inside .condvar, a .inside .lock, room-left _ _ (valid u) (a .inside .condvar) (a .notFull))
 
 enum-known-e-16 : tie.Need-enum-known-e-16 Inv-loop μ-loop
 enum-known-e-16 c = search needs
 
 notify-one-requires : tie.Need-notify-one-requires Inv-loop μ-loop
 notify-one-requires c κs =
-    let l = c .before .before .before .before .before .before .before .before .before .before .before .before .before .before .before .before .before .before .before .loop in
-    let v = l .inv .0 .kept .good .valid in
-    let a = rw (c .before .before .e16 .given .1) at (accepted (tables (l .s)) _ _ (sym (c .before .before .before .before .before .refusal .ensures) ∙ c .before .before .before .before .if4 .taken)) in
-    (v, a .inside .condvar, a .inside .room)
+    let u = c .before .before .before .before in
+    let a = rw (c .before .before .e16 .given .1) at (not-refused u) in
+    (valid u, a .inside .condvar, a .inside .room)
 
 enum-known-e-17 : tie.Need-enum-known-e-17 Inv-loop μ-loop
 enum-known-e-17 c = search needs
 
 notify-all-requires : tie.Need-notify-all-requires Inv-loop μ-loop
 notify-all-requires c κs =
-    let l = c .before .before .before .before .before .before .before .before .before .before .before .before .before .before .before .before .before .before .before .loop in
-    let v = l .inv .0 .kept .good .valid in
-    let a = rw (c .before .before .e17 .given .1) at (accepted (tables (l .s)) _ _ (sym (c .before .before .before .before .before .refusal .ensures) ∙ c .before .before .before .before .if4 .taken)) in
-    (v, a .inside .condvar, a .inside .room)
+    let u = c .before .before .before .before in
+    let a = rw (c .before .before .e17 .given .1) at (not-refused u) in
+    (valid u, a .inside .condvar, a .inside .room)
 
 enum-known-e-18 : tie.Need-enum-known-e-18 Inv-loop μ-loop
 enum-known-e-18 c = search needs
 
 end-wait-requires : tie.Need-end-wait-requires Inv-loop μ-loop
 end-wait-requires c κs =
-    let l = c .before .before .before .before .before .before .before .before .before .before .before .before .before .before .before .before .before .before .loop in
-    let v = l .inv .0 .kept .good .valid in
-    let a = rw (c .before .e18 .given .1) at (accepted (tables (l .s)) _ _ (sym (c .before .before .before .before .refusal .ensures) ∙ c .before .before .before .if4 .taken)) in
-    (v, a .inside .thread, a .inside .condvar, a .inside .lock)
+    let u = c .before .before .before in
+    let a = rw (c .before .e18 .given .1) at (not-refused u) in
+    (valid u, a .inside .thread, a .inside .condvar, a .inside .lock)
 
 enum-told : tie.Need-enum-told Inv-loop μ-loop
 enum-told c = search needs
@@ -292,26 +281,28 @@ met c =
     let l = c .before .before .before .before .before .before .before .before .before .before .before .loop in
     let g = l .inv .0 .kept .good in
     let n = l .inv .1 in
-    ⊎-elim (λ w. met-served g n (w .1 .given .1) (w .3 .ensures) (w .4 .taken) (w .6 .given .1) (w .9 .ensures) (w .9 .kept .1 .1 .1 .1 .0) (λ i. omega (arith, w .11 .given i)) (w .13) (w .14) (w .15)) (
-    ⊎-elim (λ w. met-served g n (w .1 .given .1) (w .3 .ensures) (w .4 .taken) (w .6 .given .1) (w .9 .ensures) (w .9 .kept .1 .1 .1 .0) (λ i. omega (arith, w .11 .given i)) (w .13) (w .14) (w .15)) (
-    ⊎-elim (λ w. met-served g n (w .1 .given .1) (w .3 .ensures) (w .4 .taken) (w .6 .given .1) (w .8 .ensures (l .buf)) refl (l .inv .2) (w .10) (w .11) (w .12)) (
-    ⊎-elim (λ w. met-served g n (w .1 .given .1) (w .3 .ensures) (w .4 .taken) (w .6 .given .1) (w .8 .ensures (l .buf)) refl (l .inv .2) (w .10) (w .11) (w .12)) (
-    ⊎-elim (λ w. met-served g n (w .1 .given .1) (w .3 .ensures) (w .4 .taken) (w .6 .given .1) (w .9 .ensures) (w .9 .kept .1 .1 .1 .1 .0) (λ i. omega (arith, w .11 .given i)) (w .13) (w .14) (w .15)) (
-    ⊎-elim (λ w. met-served g n (w .1 .given .1) (w .3 .ensures) (w .4 .taken) (w .6 .given .1) (w .8 .ensures (l .buf)) refl (l .inv .2) (w .10) (w .11) (w .12)) (
-    ⊎-elim (λ w. met-served g n (w .1 .given .1) (w .3 .ensures) (w .4 .taken) (w .6 .given .1) (w .8 .ensures (l .buf)) refl (l .inv .2) (w .10) (w .11) (w .12)) (
-    ⊎-elim (λ w. met-served g n (w .1 .given .1) (w .3 .ensures) (w .4 .taken) (w .6 .given .1) (w .8 .ensures (l .buf)) refl (l .inv .2) (w .10) (w .11) (w .12)) (
-    ⊎-elim (λ w. met-served g n (w .1 .given .1) (w .3 .ensures) (w .4 .taken) (w .6 .given .1) (w .9 .ensures) (w .9 .kept .1 .1 .1 .1 .0) (λ i. omega (arith, w .11 .given i)) (w .13) (w .14) (w .15)) (
-    ⊎-elim (λ w. met-served g n (w .1 .given .1) (w .3 .ensures) (w .4 .taken) (w .6 .given .1) (w .9 .ensures) (w .9 .kept .1 .1 .1 .0) (λ i. omega (arith, w .11 .given i)) (w .13) (w .14) (w .15)) (
-    ⊎-elim (λ w. met-served g n (w .1 .given .1) (w .3 .ensures) (w .4 .taken) (w .6 .given .1) (w .8 .ensures (l .buf)) refl (l .inv .2) (w .10) (w .11) (w .12)) (
-    ⊎-elim (λ w. met-served g n (w .1 .given .1) (w .3 .ensures) (w .4 .taken) (w .6 .given .1) (w .8 .ensures (l .buf)) refl (l .inv .2) (w .10) (w .11) (w .12)) (
-    ⊎-elim (λ w. met-served g n (w .1 .given .1) (w .3 .ensures) (w .4 .taken) (w .6 .given .1) (w .8 .ensures (l .buf)) refl (l .inv .2) (w .10) (w .11) (w .12)) (
-    ⊎-elim (λ w. met-served g n (w .1 .given .1) (w .3 .ensures) (w .4 .taken) (w .6 .given .1) (w .8 .ensures (l .buf)) refl (l .inv .2) (w .10) (w .11) (w .12)) (
-    ⊎-elim (λ w. met-served g n (w .1 .given .1) (w .3 .ensures) (w .4 .taken) (w .6 .given .1) (w .8 .ensures (l .buf)) refl (l .inv .2) (w .10) (w .11) (w .12)) (
-    ⊎-elim (λ w. met-served g n (w .1 .given .1) (w .3 .ensures) (w .4 .taken) (w .6 .given .1) (w .9 .ensures) (w .9 .kept .1 .1 .0) (λ i. omega (arith, w .11 .given i)) (w .13) (w .14) (w .15)) (
-    ⊎-elim (λ w. met-served g n (w .1 .given .1) (w .3 .ensures) (w .4 .taken) (w .6 .given .1) (w .9 .ensures) (w .9 .kept .1 .1 .0) (λ i. omega (arith, w .11 .given i)) (w .13) (w .14) (w .15)) (
-    ⊎-elim (λ w. met-served g n (w .1 .given .1) (w .3 .ensures) (w .4 .taken) (w .6 .given .1) (w .8 .ensures (l .buf)) refl (l .inv .2) (w .10) (w .11) (w .12)) (
-    ⊎-elim (λ w. met-refused g n (l .inv .2) (w .1 .given .1) (w .3 .ensures) (w .4 .left) (w .5) (w .6) (w .7)) (
-    λ w. met-unread g n (l .inv .2) (w .1 .given .1) (w .2) (w .3) (w .4)))))))))))))))))))) (c .match .came)
+    elim (c .match .came) [
+      | inl w ↦ met-served g n (w .1 .given .1) (w .3 .ensures) (w .4 .taken) (w .6 .given .1) (w .9 .ensures) (w .9 .kept .1 .1 .1 .1 .0) (λ i. omega (arith, w .11 .given i)) (w .13) (w .14) (w .15)
+      | inr (inl w) ↦ met-served g n (w .1 .given .1) (w .3 .ensures) (w .4 .taken) (w .6 .given .1) (w .9 .ensures) (w .9 .kept .1 .1 .1 .0) (λ i. omega (arith, w .11 .given i)) (w .13) (w .14) (w .15)
+      | inr (inr (inl w)) ↦ met-served g n (w .1 .given .1) (w .3 .ensures) (w .4 .taken) (w .6 .given .1) (w .8 .ensures (l .buf)) refl (l .inv .2) (w .10) (w .11) (w .12)
+      | inr (inr (inr (inl w))) ↦ met-served g n (w .1 .given .1) (w .3 .ensures) (w .4 .taken) (w .6 .given .1) (w .8 .ensures (l .buf)) refl (l .inv .2) (w .10) (w .11) (w .12)
+      | inr (inr (inr (inr (inl w)))) ↦ met-served g n (w .1 .given .1) (w .3 .ensures) (w .4 .taken) (w .6 .given .1) (w .9 .ensures) (w .9 .kept .1 .1 .1 .1 .0) (λ i. omega (arith, w .11 .given i)) (w .13) (w .14) (w .15)
+      | inr (inr (inr (inr (inr (inl w))))) ↦ met-served g n (w .1 .given .1) (w .3 .ensures) (w .4 .taken) (w .6 .given .1) (w .8 .ensures (l .buf)) refl (l .inv .2) (w .10) (w .11) (w .12)
+      | inr (inr (inr (inr (inr (inr (inl w)))))) ↦ met-served g n (w .1 .given .1) (w .3 .ensures) (w .4 .taken) (w .6 .given .1) (w .8 .ensures (l .buf)) refl (l .inv .2) (w .10) (w .11) (w .12)
+      | inr (inr (inr (inr (inr (inr (inr (inl w))))))) ↦ met-served g n (w .1 .given .1) (w .3 .ensures) (w .4 .taken) (w .6 .given .1) (w .8 .ensures (l .buf)) refl (l .inv .2) (w .10) (w .11) (w .12)
+      | inr (inr (inr (inr (inr (inr (inr (inr (inl w)))))))) ↦ met-served g n (w .1 .given .1) (w .3 .ensures) (w .4 .taken) (w .6 .given .1) (w .9 .ensures) (w .9 .kept .1 .1 .1 .1 .0) (λ i. omega (arith, w .11 .given i)) (w .13) (w .14) (w .15)
+      | inr (inr (inr (inr (inr (inr (inr (inr (inr (inl w))))))))) ↦ met-served g n (w .1 .given .1) (w .3 .ensures) (w .4 .taken) (w .6 .given .1) (w .9 .ensures) (w .9 .kept .1 .1 .1 .0) (λ i. omega (arith, w .11 .given i)) (w .13) (w .14) (w .15)
+      | inr (inr (inr (inr (inr (inr (inr (inr (inr (inr (inl w)))))))))) ↦ met-served g n (w .1 .given .1) (w .3 .ensures) (w .4 .taken) (w .6 .given .1) (w .8 .ensures (l .buf)) refl (l .inv .2) (w .10) (w .11) (w .12)
+      | inr (inr (inr (inr (inr (inr (inr (inr (inr (inr (inr (inl w))))))))))) ↦ met-served g n (w .1 .given .1) (w .3 .ensures) (w .4 .taken) (w .6 .given .1) (w .8 .ensures (l .buf)) refl (l .inv .2) (w .10) (w .11) (w .12)
+      | inr (inr (inr (inr (inr (inr (inr (inr (inr (inr (inr (inr (inl w)))))))))))) ↦ met-served g n (w .1 .given .1) (w .3 .ensures) (w .4 .taken) (w .6 .given .1) (w .8 .ensures (l .buf)) refl (l .inv .2) (w .10) (w .11) (w .12)
+      | inr (inr (inr (inr (inr (inr (inr (inr (inr (inr (inr (inr (inr (inl w))))))))))))) ↦ met-served g n (w .1 .given .1) (w .3 .ensures) (w .4 .taken) (w .6 .given .1) (w .8 .ensures (l .buf)) refl (l .inv .2) (w .10) (w .11) (w .12)
+      | inr (inr (inr (inr (inr (inr (inr (inr (inr (inr (inr (inr (inr (inr (inl w)))))))))))))) ↦ met-served g n (w .1 .given .1) (w .3 .ensures) (w .4 .taken) (w .6 .given .1) (w .8 .ensures (l .buf)) refl (l .inv .2) (w .10) (w .11) (w .12)
+      | inr (inr (inr (inr (inr (inr (inr (inr (inr (inr (inr (inr (inr (inr (inr (inl w))))))))))))))) ↦ met-served g n (w .1 .given .1) (w .3 .ensures) (w .4 .taken) (w .6 .given .1) (w .9 .ensures) (w .9 .kept .1 .1 .0) (λ i. omega (arith, w .11 .given i)) (w .13) (w .14) (w .15)
+      | inr (inr (inr (inr (inr (inr (inr (inr (inr (inr (inr (inr (inr (inr (inr (inr (inl w)))))))))))))))) ↦ met-served g n (w .1 .given .1) (w .3 .ensures) (w .4 .taken) (w .6 .given .1) (w .9 .ensures) (w .9 .kept .1 .1 .0) (λ i. omega (arith, w .11 .given i)) (w .13) (w .14) (w .15)
+      | inr (inr (inr (inr (inr (inr (inr (inr (inr (inr (inr (inr (inr (inr (inr (inr (inr (inl w))))))))))))))))) ↦ met-served g n (w .1 .given .1) (w .3 .ensures) (w .4 .taken) (w .6 .given .1) (w .8 .ensures (l .buf)) refl (l .inv .2) (w .10) (w .11) (w .12)
+      | inr (inr (inr (inr (inr (inr (inr (inr (inr (inr (inr (inr (inr (inr (inr (inr (inr (inr (inl w)))))))))))))))))) ↦ met-refused g n (l .inv .2) (w .1 .given .1) (w .3 .ensures) (w .4 .left) (w .5) (w .6) (w .7)
+      | inr (inr (inr (inr (inr (inr (inr (inr (inr (inr (inr (inr (inr (inr (inr (inr (inr (inr (inr w)))))))))))))))))) ↦ met-unread g n (l .inv .2) (w .1 .given .1) (w .2) (w .3) (w .4)
+    ]
 
 add-n : tie.Need-add-n Inv-loop μ-loop
 add-n c = omega (arith, c .before .before .before .before .before .before .before .before .before .before .before .loop .inv .0 .kept .lines, c .before .before .before .before .before .before .before .before .before .if1 .left)
@@ -326,10 +317,10 @@ chunk-fits : (c : tie.Start Inv-loop μ-loop) → length (c .args .chunk .now) <
 chunk-fits c = search needs
 
 add-i : tie.Need-add-i Inv-loop μ-loop
-add-i c = omega (arith, c .before .before .before .before .before .before .before .before .before .before .before .before .line-end .ensures .1, c .before .before .before .before .before .before .before .before .before .before .before .if3 .left, chunk-fits (c .before .before .before .before .before .before .before .before .before .before .before .before .before .before .before .before .before .before .before .before .before .before))
+add-i c = omega (arith, c .before .before .before .before .before .before .before .before .before .before .before .before .line-end .ensures .1, c .before .before .before .before .before .before .before .before .before .before .before .if3 .left, c .before .before .before .before .before .before .before .before .before .before .before .before .before .before .before .loop-test .taken, chunk-fits (c .before .before .before .before .before .before .before .before .before .before .before .before .before .before .before .before .before .before .before .before .before .before))
 
 loop-less : tie.Need-loop-less Inv-loop μ-loop
-loop-less c = omega (arith, c .before .before .before .before .before .before .before .before .before .before .before .before .line-end .ensures)
+loop-less c = omega (arith, c .before .before .before .before .before .before .before .before .before .before .before .before .before .before .before .loop-test .taken, c .before .before .before .before .before .before .before .before .before .before .before .before .line-end .ensures)
 
 loop-again : tie.Need-loop-again Inv-loop μ-loop
 loop-again c =
