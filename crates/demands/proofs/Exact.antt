@@ -45,14 +45,15 @@ use Rattle.detector.specs.Tables.{Tables}
 use Rattle.detector.specs.Mutex.{acquireSlow}
 use Rattle.detector.specs.RwLock.{acquireRead, readOn, writeOn, free, blockWrite, acquireWrite}
 use Rattle.detector.specs.Events.{apply}
-use Rattle.detector.specs.Refusals.{numbersOf}
+use Rattle.detector.specs.Refusals.{Inside, numbersOf}
 use Rattle.detector.specs.Stuck.{Truly}
 use Rattle.detector.specs.declared.event.Event.the-variants.{MutexAttempt, RwReadAttempt, RwWriteAttempt}
 use Rattle.demands.specs.Invariants.{Fine, Kept}
 use Rattle.demands.specs.Demand3.{Exact, Alone, Apt, Shared, Spared, SecondHalf}
 use Rattle.demands.proofs.Fine.{unwaited-graph, fine-own, fine-write, fine-set}
 use Rattle.demands.proofs.Reports.{both-true}
-use Rattle.demands.proofs.Events.{Inside, accepted, served}
+use Rattle.detector.proofs.Numbers.{accepted}
+use Rattle.demands.proofs.Events.{served}
 use Rattle.demands.proofs.Invariants.{reached-kept}
 
 -- a truly waits for b, in waits w with counts c
@@ -399,7 +400,7 @@ module _ (x : Tables) (room t l : ℕ) (k : Kept x) (exact : Exact x) where
 pub second-half : SecondHalf
 second-half =
     record {
-      mutex = λ x room t l o r exact h a. rw (served x room (MutexAttempt t l o) h) (half-mutex x room t l (reached-kept x r) exact o (accepted x room (MutexAttempt t l o) h .0) a);
-      read = λ x room t l o r exact h a. rw (served x room (RwReadAttempt t l o) h) (half-read x room t l (reached-kept x r) exact o (accepted x room (RwReadAttempt t l o) h .0) a);
-      write = λ x room t l o r exact h a. rw (served x room (RwWriteAttempt t l o) h) (half-write x room t l (reached-kept x r) exact o (accepted x room (RwWriteAttempt t l o) h .0) a);
+      mutex = λ x room t l o r exact h a. rw (served x room (MutexAttempt t l o) h) (half-mutex x room t l (reached-kept x r) exact o (accepted x room (MutexAttempt t l o) h .inside) a);
+      read = λ x room t l o r exact h a. rw (served x room (RwReadAttempt t l o) h) (half-read x room t l (reached-kept x r) exact o (accepted x room (RwReadAttempt t l o) h .inside) a);
+      write = λ x room t l o r exact h a. rw (served x room (RwWriteAttempt t l o) h) (half-write x room t l (reached-kept x r) exact o (accepted x room (RwWriteAttempt t l o) h .inside) a);
     }

@@ -11,7 +11,7 @@ use lib.Dec.{lit<}
 use lib.ListN.{getD, set, length, length-set, replicate}
 use lib.Seq.{getD-set-same, getD-set-other}
 use borrow.Author.Tests.{eq-eqb, eqb-true}
-use Rattle.sets.specs.Sets.{bit, upward}
+use Rattle.sets.specs.Sets.{bit, has, upward}
 use Rattle.sets.specs.Lists.{In, Distinct}
 use Rattle.sets.proofs.Digits.{bit-zero, has-bit, bit-has, with-lt, without-le}
 use Rattle.sets.proofs.Walk.{upward-lt}
@@ -19,7 +19,7 @@ use Rattle.sets.proofs.Tables.{set-all}
 use Rattle.graph.specs.Search.{row}
 use Rattle.graph.specs.Graph.{put, cut, addOwners, clearWaitEdges, Adding, first, Good}
 use Rattle.graph.specs.declared.wait_for_graph.WaitForGraph.{WaitForGraph}
-use Rattle.graph.proofs.Good.{At, at-put, at-cut, good-clear, good-empty}
+use Rattle.graph.proofs.Good.{At, at-put, at-cut, emptied-row, good-remove-edges, good-clear, good-empty}
 use Rattle.graph.proofs.Register.{Owned, register-good, register-ring}
 use Rattle.waits.specs.Tables.{noSlot, intentOf, waitersOf, holdsOf, withGraph, withIntents, withHolds, own, write, hold, unhold, empty, InRange}
 use Rattle.waits.specs.Owners.{owners}
@@ -31,72 +31,43 @@ use Rattle.waits.specs.declared.intent.WaitIntent.{WaitIntent}
 use Rattle.waits.specs.declared.intent.Awaits.{Awaits}
 use Rattle.waits.specs.declared.intent.Awaits.the-variants.{Nothing, For}
 use Rattle.waits.proofs.Laws.{lock-of, range-graph, range-own, range-write, range-unwaited, range-set, range-empty, owners-lt}
+use Rattle.detector.specs.RwLock.{loosen}
 use Rattle.demands.specs.Invariants.{Fine}
+use Rattle.demands.proofs.Keeping.{Rules}
+use Rattle.demands.proofs.Held.{Held, held-graph, held-own, held-write, held-hold, held-unhold, held-emptied, held-unwaited, held-set}
 
 -- ---- a change of one table
 
+-- no more than that the graph is good, and that waiters have intents, is to be shown beside what any waits keep
+module _ {w : Waits} where
+  pub held : Fine w → Held w
+  held f = record { graph = f .graph .sized; range = f .range; shaped = f .shaped }
+
+  fine-of : Held w → Good (w .«wait_for_graph») → ((l t : ℕ) → has (waitersOf w l) t ≡ true → names (intentOf w t) l ≡ true) → Fine w
+  fine-of h g n = record { graph = g; named = n; range = h .range; shaped = h .shaped }
+
 pub fine-graph : (w : Waits) (g : WaitForGraph) → Good g → Fine w → Fine (withGraph w g)
-fine-graph w g k f = record { graph = k; named = f .named; range = range-graph w g (f .range); shaped = f .shaped }
+fine-graph w g k f = fine-of (held-graph w g (k .sized) (held f)) k (f .named)
 
 pub fine-own : (w : Waits) (l o : ℕ) → o ≤ 32 → Fine w → Fine (own w l o)
-fine-own w l o h f =
-    record {
-      graph = f .graph;
-      named = f .named;
-      range = range-own w l o h (f .range);
-      shaped =
-          let s = f .shaped in
-          record { threads = s .threads; locks = s .locks; few = s .few; holders = s .holders; held = s .held; owned = simp length-set (s .owned); written = s .written };
-    }
+fine-own w l o h f = fine-of (held-own w l o h (held f)) (f .graph) (f .named)
 
 pub fine-write : (w : Waits) (l o : ℕ) → o ≤ 32 → Fine w → Fine (write w l o)
-fine-write w l o h f =
-    record {
-      graph = f .graph;
-      named = f .named;
-      range = range-write w l o h (f .range);
-      shaped =
-          let s = f .shaped in
-          record { threads = s .threads; locks = s .locks; few = s .few; holders = s .holders; held = s .held; owned = s .owned; written = simp length-set (s .written) };
-    }
-
-fine-holds : (w : Waits) (t m : ℕ) → m < 2 ^ 64 → Fine w → Fine (withHolds w (set (w .«thread_holds») t m))
-fine-holds w t m h f =
-    record {
-      graph = f .graph;
-      named = f .named;
-      range = record { locks = f .range .locks; owner = f .range .owner; writer = f .range .writer };
-      shaped =
-          let s = f .shaped in
-          record {
-            threads = s .threads;
-            locks = s .locks;
-            few = s .few;
-            holders = simp length-set (s .holders);
-            held = set-all (λ (x : ℕ). x < 2 ^ 64) (w .«thread_holds») t m 0 h (s .held);
-            owned = s .owned;
-            written = s .written;
-          };
-    }
+fine-write w l o h f = fine-of (held-write w l o h (held f)) (f .graph) (f .named)
 
 pub fine-hold : (w : Waits) (t l : ℕ) → l < 64 → Fine w → Fine (hold w t l)
-fine-hold w t l h f = fine-holds w t _ (with-lt 64 _ l (f .shaped .held t) h) f
+fine-hold w t l h f = fine-of (held-hold w t l h (held f)) (f .graph) (f .named)
 
 pub fine-unhold : (w : Waits) (t l : ℕ) → Fine w → Fine (unhold w t l)
-fine-unhold w t l f = fine-holds w t _ (omega (arith, without-le (holdsOf w t) l, f .shaped .held t)) f
+fine-unhold w t l f = fine-of (held-unhold w t l (held f)) (f .graph) (f .named)
+
+-- the waiters of l go
+pub fine-emptied : (w : Waits) (l : ℕ) → l < 64 → Fine w → Fine (withIntents w (w .«thread_waits_for») (set (w .«lock_waiters») l 0))
+fine-emptied w l h f =
+    fine-of (held-emptied w l (held f)) (f .graph)
+    (λ k t b. f .named k t (bit-has _ _ (emptied-row (w .«lock_waiters») l (rw (f .shaped .locks) h) k t .0 (has-bit _ _ b) .1)))
 
 -- ---- clear
-
--- intents s and waiters v in place of those of w
-pub fine-intents : (w : Waits) (s : List Slot) (v : List ℕ) → InRange (withIntents w s v) → length s ≡ 32 → length v ≡ 64 → ((l : ℕ) → row v l < 2 ^ 32)
-    → ((l t : ℕ) → bit (row v l) t ≡ 1 → names (getD s t noSlot .awaits) l ≡ true) → Fine w → Fine (withIntents w s v)
-fine-intents w s v r a b c n f =
-    record {
-      graph = f .graph;
-      named = λ l t h. n l t (has-bit _ _ h);
-      range = r;
-      shaped = record { threads = a; locks = b; few = c; holders = f .shaped .holders; held = f .shaped .held; owned = f .shaped .owned; written = f .shaped .written };
-    }
 
 module _ (w : Waits) (t : ℕ) (i : WaitIntent) (e : intentOf w t ≡ For i) (f : Fine w) where
   unwaited-named : (l u : ℕ) → bit (row (cut (w .«lock_waiters») (i .«lock_id») t) l) u ≡ 1 → names (getD (set (w .«thread_waits_for») t noSlot) u noSlot .awaits) l ≡ true
@@ -117,10 +88,7 @@ module _ (w : Waits) (t : ℕ) (i : WaitIntent) (e : intentOf w t ≡ For i) (f 
 
 fine-unwaited : (w : Waits) (t : ℕ) (a : Awaits) → intentOf w t ≡ a → Fine w → Fine (unwaited w t a)
 fine-unwaited w t Nothing e f = f
-fine-unwaited w t (For i) e f =
-    fine-intents w _ _ (range-unwaited w t (For i) (f .range)) (simp length-set (f .shaped .threads)) (simp length-set (f .shaped .locks))
-    (set-all (λ (m : ℕ). m < 2 ^ 32) (w .«lock_waiters») (i .«lock_id») _ 0 (omega (arith, without-le (waitersOf w (i .«lock_id»)) t, f .shaped .few (i .«lock_id»))) (f .shaped .few))
-    (unwaited-named w t i e f) f
+fine-unwaited w t (For i) e f = fine-of (held-unwaited w t (For i) (held f)) (f .graph) (λ l u h. unwaited-named w t i e f l u (has-bit _ _ h))
 
 pub unwaited-graph : (w : Waits) (t : ℕ) (a : Awaits) → unwaited w t a .«wait_for_graph» ≡ w .«wait_for_graph»
 unwaited-graph w t Nothing = refl
@@ -144,14 +112,8 @@ cleared-none w t h f = go (intentOf w t) refl
 
 pub fine-set : (w : Waits) (t : ℕ) (i : WaitIntent) → t < 32 → i .«lock_id» < 64 → Fine w → Fine (setIntent w t i)
 unfolding setIntent
-fine-set w t i h k f =
-    fine-intents u _ _ (range-set w t i k (f .range)) (simp length-set (c .shaped .threads)) (simp length-set (c .shaped .locks))
-    (set-all (λ (m : ℕ). m < 2 ^ 32) (u .«lock_waiters») (i .«lock_id») _ 0 (with-lt 32 _ t (c .shaped .few (i .«lock_id»)) h) (c .shaped .few))
-    told c
+fine-set w t i h k f = fine-of (held-set w t i h k (held f)) (c .graph) (λ l v b. told l v (has-bit _ _ b))
   where
-    u : Waits
-    u = clear w t
-
     c : Fine (clear w t)
     c = fine-clear w t h f
 
@@ -250,4 +212,24 @@ fine-empty =
       named = λ l t h. absurd (omega (arith, has-bit _ _ h, ap (λ (m : ℕ). bit m t) (blank 64 l), bit-zero t));
       range = range-empty;
       shaped = record { threads = refl; locks = refl; few = λ l. rw (blank 64 l) (lit< tt); holders = refl; held = λ t. rw (blank 32 t) (lit< tt); owned = refl; written = refl };
+    }
+
+-- ---- every rule of waiting keeps it
+
+fine-loosen : (w : Waits) (t l : ℕ) → t < 32 → Fine w → Fine (loosen w t l)
+unfolding loosen
+fine-loosen w t l h f = fine-graph w _ (good-remove-edges t (upward 32 (waitersOf w l)) (w .«wait_for_graph») h (upward-lt 32 (waitersOf w l)) (f .graph)) f
+
+pub fine-rules : Rules Fine
+fine-rules =
+    record {
+      owned = fine-own;
+      wrote = fine-write;
+      holding = fine-hold;
+      unholding = fine-unhold;
+      cleared = fine-clear;
+      registered = λ c w t i h k f. stepped-register c w t i h k f .fine;
+      refreshed = λ c w l f. stepped-refresh c w l f .fine;
+      loosened = fine-loosen;
+      emptied = fine-emptied;
     }

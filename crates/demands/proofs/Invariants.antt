@@ -14,7 +14,8 @@ use Rattle.detector.specs.declared.state.Pair.{Pair}
 use Rattle.demands.specs.Reached.{answer, room, after}
 use Rattle.demands.specs.Invariants.{Kept, most, ReachedKept, ReachedFew, ReachedRoom}
 use Rattle.demands.specs.Demand3.{Each, TrueReport, FirstHalf}
-use Rattle.demands.proofs.Fine.{fine-empty, blank}
+use Rattle.demands.proofs.Keeping.{answer-keeps}
+use Rattle.demands.proofs.Fine.{fine-empty, blank, fine-rules}
 use Rattle.demands.proofs.Reports.{each-map}
 use Rattle.demands.proofs.Events.{Heard, answers-answer}
 
@@ -44,7 +45,7 @@ kept-empty =
 kept-after : (es : List Event) (x : Tables) → Kept x → Kept (after x es)
 unfolding after
 kept-after [] x k = k
-kept-after (e ∷ es) x k = kept-after es (answer x room e .tables) (answers-answer x room e k .kept)
+kept-after (e ∷ es) x k = kept-after es (answer x room e .tables) (answer-keeps fine-rules x k room e)
 
 pub reached-kept : ReachedKept
 reached-kept x r = subst Kept (r .ends) (kept-after (r .events) empty kept-empty)

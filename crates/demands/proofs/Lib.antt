@@ -2,6 +2,8 @@
 -- sessions-hold, further-hold
 pub mod Sessions
 -- what the rules of waiting, the judgements and the events keep
+pub mod Keeping
+pub mod Held
 pub mod Fine
 pub mod Reports
 pub mod Events

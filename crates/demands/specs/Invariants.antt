@@ -47,8 +47,9 @@ abbrev pub Seated : List Pair → Type 0
 Seated [] = Unit
 Seated (p ∷ q) = (p .thread < 32) × (p .lock < 64) × Seated q
 
-pub record Kept (x : Tables) : Type 0 where
-  pub waits : Fine (x .waits)
+-- waits of which P holds, and the other tables in their ranges
+pub record KeptWith (P : Waits → Type 0) (x : Tables) : Type 0 where
+  pub waits : P (x .waits)
   pub counts : Counts (x .«rwlock_readers»)
   pub condvars : length (x .«cv_waiters») ≡ 16
   pub queues : (c : ℕ) → length (queueOf x c) ≤ 32
@@ -56,6 +57,9 @@ pub record Kept (x : Tables) : Type 0 where
   pub sleepers : length (x .«thread_wait_cv») ≡ 32
   pub waiting : (t : ℕ) → Waiting (getD (x .«thread_wait_cv») t blankWait)
   pub woken : x .«cv_woken» < 2 ^ 32
+
+abbrev pub Kept : Tables → Type 0
+Kept = KeptWith Fine
 
 -- ca gives at most 32 reports, ma, mc, ra, wa, wc and c1 at most one, the others none
 abbrev pub most : Event → ℕ
