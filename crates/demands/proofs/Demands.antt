@@ -6,7 +6,7 @@ use Prim.Native.Nat.{ℕ, zero, suc, _<_}
 use native.Mathlib.Omega.{arith}
 use native.Mathlib.Decide.{ℕ-discrete}
 use lib.Dec.{eqb, ltb}
-use lib.ListN.{length}
+use lib.ListN.{length, length-map}
 use borrow.Author.Tests.{ne-eqb}
 use Rattle.waits.specs.Report.{written}
 use Rattle.waits.specs.Owners.{countOf}
@@ -17,7 +17,7 @@ use Rattle.waits.specs.declared.outcome.Tried.the-variants.{Taken, Missed}
 use Rattle.waits.proofs.Telling.{laid-none}
 use Rattle.detector.specs.Tables.{Tables, Answer, empty, queueOf}
 use Rattle.detector.specs.Refusals.{Numbers, numbersOf, outside, full, refusal}
-use Rattle.detector.specs.State.{tables, Valid, refusalOf, refusedBy, reportsIn, Steps}
+use Rattle.detector.specs.State.{pairsOf, tables, Valid, refusalOf, refusedBy, reportsIn, Steps}
 use Rattle.detector.specs.declared.event.Event.{Event}
 use Rattle.detector.specs.declared.event.Event.the-variants.{MutexAttempt, MutexAcquired, MutexReleased, MutexExit, RwReadReleased, RwWriteAttempt, RwWriteAcquired, RwWriteReleased, RwExit, CondvarSpawn, CondvarExit, CondvarNotifyOne, CondvarNotifyAll, CondvarWaitEnd, RwReadAttempt, RwReadAcquired, RwReadTry, CondvarWaitBegin}
 use Rattle.detector.specs.declared.state.Detector.{Detector}
@@ -26,23 +26,28 @@ use Rattle.detector.specs.declared.reply.Reply.{Reply}
 use Rattle.detector.specs.declared.reply.Reply.the-variants.{Refused}
 use Rattle.demands.specs.Reached.{answer, room, after, Reached}
 use Rattle.demands.specs.Feeds.{Call, Back, Feeds, none, next, Starts}
-use Rattle.demands.specs.Demand1.{AllAnswered, EachAnswered, RefusedByNumber}
+use Rattle.demands.specs.Typed.{Typed}
+use Rattle.demands.specs.Demand1.{AllAnswered, AllAnsweredFromNew, EachAnswered, RefusedByNumber}
 use Rattle.demands.specs.Demand2.{replied, onward, backs, ends, NoTwo, FedAsRuled, Coincide, StepsCoincide}
 use Rattle.demands.specs.Demand3.{ReportsTrue, Converse, MutexConverse, RwConverse, Attempted, Called, CalledHalf}
 use Rattle.demands.proofs.Events.{accepted-full, served, unserved}
 use Rattle.demands.proofs.Invariants.{first-half}
 use Rattle.demands.proofs.Exact.{second-half}
+use Rattle.demands.proofs.Entry.{entry, starts-typed, served-held}
 use Rattle.detector.proofs.Validity.{valid-tested}
 use Rattle.detector.proofs.SameState.{same-state}
 
 -- ---- DEMAND 1
 
 pub all-answered : AllAnswered
-all-answered T C step d h [] c = ([], d, none, h)
-all-answered T C step d h (k ∷ ks) c =
-    let s = step d k h (c .0) in
-    let f = all-answered T C step (s .0 .detector) (s .3) ks (c .1) in
+all-answered d h [] = ([], d, none, h)
+all-answered d h (k ∷ ks) =
+    let s = entry d k h in
+    let f = all-answered (s .0 .detector) (s .3) ks in
     (record { reply = s .0 .reply; buffer = s .1 } ∷ f .0, f .1, next (s .2) (f .2), f .3)
+
+pub all-answered-from-new : AllAnsweredFromNew
+all-answered-from-new d s ks = let f = all-answered d (starts-typed d s) ks in (f .0, f .1, f .2)
 
 pub each-answered : EachAnswered
 each-answered d e ks bs f = go f
@@ -217,15 +222,22 @@ coincide d e d′ e′ ks bs bs′ s f s′ f′ =
     let m = as-ruled d′ e′ ks bs′ s′ f′ in
     (n .answers ∙ sym (m .answers), n .tables ∙ sym (m .tables))
 
+-- as many queues come out of a step as the types hold
+queues-out : (d : Detector) (ev : Event) (r : Answered) (b e : List ℕ) → Typed d → Steps d ev r b e → refusalOf d (length b) ev ≡ 0 → length (r .detector .rest .«cv_waiters») ≡ 16
+queues-out d ev r b e y s z =
+    sym (length-map (r .detector .rest .«cv_waiters») pairsOf)
+    ∙ ap (λ (x : Tables). length (x .«cv_waiters»)) (s .served z .1 .state)
+    ∙ served-held d ev (length b) y z .condvars
+
 pub steps-coincide : StepsCoincide
-steps-coincide d ev r q b e f lr lq s t = go (refusalOf d (length b) ev) refl
+steps-coincide d ev r q b e f h s t = go (refusalOf d (length b) ev) refl
   where
     go : (n : ℕ) → refusalOf d (length b) ev ≡ n → (r ≡ q) × (e ≡ f)
     go zero z =
         let x = s .served z in
         let y = t .served z in (
           ap₂ (λ (c : Detector) (p : Reply). record { detector = c; reply = p })
-              (same-state (r .detector) (q .detector) (x .1 .valid) (y .1 .valid) lr lq (x .1 .state ∙ sym (y .1 .state))) (x .0 ∙ sym (y .0)),
+              (same-state (r .detector) (q .detector) (x .1 .valid) (y .1 .valid) (queues-out d ev r b e h s z) (queues-out d ev q b f h t z) (x .1 .state ∙ sym (y .1 .state))) (x .0 ∙ sym (y .0)),
           x .1 .bytes ∙ sym (y .1 .bytes),
         )
     go (suc n) z =

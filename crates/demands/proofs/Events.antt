@@ -8,7 +8,6 @@ use native.Mathlib.Omega.{arith}
 use lib.Dec.{eqb, ltb, lit≤}
 use lib.ListN.{length, length-append, take}
 use borrow.Author.Tests.{eqb-true, ne-eqb}
-use Rattle.sets.specs.Below.{each}
 use Rattle.waits.specs.Tables.{ownerOf}
 use Rattle.waits.specs.Report.{Report, Said, quiet, bytesOf}
 use Rattle.waits.specs.Attempt.{block, blockMutex}

@@ -4,24 +4,23 @@ use mathlib.Core.Logic.{inl, inr}
 use mathlib.Core.List.{List, [], _∷_, foldl}
 use mathlib.Core.Bool.{true, false≢true}
 use mathlib.Core.Option.{Option, none, some}
-use Prim.Native.Nat.{ℕ, zero, suc, _<_, _≤_, _^_}
+use Prim.Native.Nat.{ℕ, zero, suc, _<_, _≤_}
 use native.Mathlib.Omega.{arith}
 use native.Mathlib.Decide.{ℕ-discrete}
 use lib.Dec.{lit<}
-use lib.ListN.{getD, set, length, length-set, replicate}
+use lib.ListN.{getD, set, replicate}
 use lib.Seq.{getD-set-same, getD-set-other}
 use borrow.Author.Tests.{eq-eqb, eqb-true}
 use Rattle.sets.specs.Sets.{bit, has, upward}
 use Rattle.sets.specs.Lists.{In, Distinct}
-use Rattle.sets.proofs.Digits.{bit-zero, has-bit, bit-has, with-lt, without-le}
+use Rattle.sets.proofs.Digits.{bit-zero, has-bit, bit-has}
 use Rattle.sets.proofs.Walk.{upward-lt}
-use Rattle.sets.proofs.Tables.{set-all}
 use Rattle.graph.specs.Search.{row}
 use Rattle.graph.specs.Graph.{put, cut, addOwners, clearWaitEdges, Adding, first, Good}
 use Rattle.graph.specs.declared.wait_for_graph.WaitForGraph.{WaitForGraph}
 use Rattle.graph.proofs.Good.{At, at-put, at-cut, emptied-row, good-remove-edges, good-clear, good-empty}
 use Rattle.graph.proofs.Register.{Owned, register-good, register-ring}
-use Rattle.waits.specs.Tables.{noSlot, intentOf, waitersOf, holdsOf, withGraph, withIntents, withHolds, own, write, hold, unhold, empty, InRange}
+use Rattle.waits.specs.Tables.{noSlot, intentOf, waitersOf, withGraph, withIntents, own, write, hold, unhold, empty}
 use Rattle.waits.specs.Owners.{owners}
 use Rattle.waits.specs.Waiting.{Step, unwaited, clear, setIntent, register, renewFor, renew, start, renewAll, refresh, refreshNext, refreshLocks}
 use Rattle.waits.specs.Validate.{names}
@@ -30,7 +29,7 @@ use Rattle.waits.specs.declared.intent.Slot.{Slot}
 use Rattle.waits.specs.declared.intent.WaitIntent.{WaitIntent}
 use Rattle.waits.specs.declared.intent.Awaits.{Awaits}
 use Rattle.waits.specs.declared.intent.Awaits.the-variants.{Nothing, For}
-use Rattle.waits.proofs.Laws.{lock-of, range-graph, range-own, range-write, range-unwaited, range-set, range-empty, owners-lt}
+use Rattle.waits.proofs.Laws.{lock-of, range-empty, owners-lt}
 use Rattle.detector.specs.RwLock.{loosen}
 use Rattle.demands.specs.Invariants.{Fine}
 use Rattle.demands.proofs.Keeping.{Rules}

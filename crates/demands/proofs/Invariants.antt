@@ -19,7 +19,7 @@ use Rattle.demands.proofs.Fine.{fine-empty, blank, fine-rules}
 use Rattle.demands.proofs.Reports.{each-map}
 use Rattle.demands.proofs.Events.{Heard, answers-answer}
 
-kept-empty : Kept empty
+pub kept-empty : Kept empty
 kept-empty =
     record {
       waits = fine-empty;

@@ -8,7 +8,6 @@ use native.Mathlib.Omega.{arith}
 use lib.Dec.{eqb, ltb, lit≤}
 use lib.ListN.{getD, set, length, length-set, length-append}
 use borrow.Author.Tests.{eqb-true, eqb-false, ltb-true}
-use Rattle.sets.specs.Below.{each}
 use Rattle.sets.proofs.Digits.{with-lt, without-le}
 use Rattle.sets.proofs.Below.{each-keeps}
 use Rattle.sets.proofs.Tables.{set-all}

@@ -2,30 +2,28 @@
 -- number, and then the state and the report buffer hold what they held.
 -- Here it is said of events; of script texts, where texts are read.
 use mathlib.Core.Path.{_≡_}
-use mathlib.Core.List.{List, [], _∷_}
+use mathlib.Core.List.{List}
 use Prim.Native.Nat.{ℕ, _<_}
 use lib.ListN.{length}
 use Rattle.detector.specs.State.{refusalOf, refusedBy, Steps}
 use Rattle.detector.specs.declared.event.Event.{Event}
 use Rattle.detector.specs.declared.state.Detector.{Detector}
 use Rattle.detector.specs.declared.reply.Answered.{Answered}
-use Rattle.demands.specs.Feeds.{Call, Back, Feeds}
+use Rattle.demands.specs.Feeds.{Call, Back, Feeds, Starts}
+use Rattle.demands.specs.Typed.{Typed}
 
--- a step that ends and keeps its promise, for the states T and the calls C that the code's types hold. Over every record
--- none could: one with more entries than its type holds passes the test for ranges and cannot be served.
-abbrev pub Entry : (Detector → Type 0) → (Call → Type 0) → Type 0
-Entry T C = (d : Detector) (k : Call) → T d → C k → (r : Answered) × (e : List ℕ) × Steps d (k .event) r (k .lent) e × T (r .detector)
+-- AN ANSWER AND AN END (`entry`): from every state that the types hold, valid or not, and for every event and buffer there
+-- is a result that keeps the promise of a step, and its state is again one that the types hold. Over every record there
+-- would be none: one with more entries than its type holds passes the test for ranges and cannot be served.
+abbrev pub Entry : Type 0
+Entry = (d : Detector) (k : Call) → Typed d → (r : Answered) × (e : List ℕ) × Steps d (k .event) r (k .lent) e × Typed (r .detector)
 
-abbrev pub AllOf : (Call → Type 0) → List Call → Type 0
-AllOf C [] = Unit
-AllOf C (k ∷ ks) = C k × AllOf C ks
+-- so any calls lead on, with an answer each (`all-answered`, `each-answered`); also from the empty state (`all-answered-from-new`)
+abbrev pub AllAnswered : Type 0
+AllAnswered = (d : Detector) → Typed d → (ks : List Call) → (bs : List Back) × (e : Detector) × Feeds d ks bs e × Typed e
 
--- AN ANSWER AND AN END (`all-answered`, `each-answered`): any calls of C lead from any state of T to one of T, with an
--- answer each
-abbrev pub AllAnswered : Type 1
-AllAnswered =
-    (T : Detector → Type 0) (C : Call → Type 0) → Entry T C → (d : Detector) → T d → (ks : List Call) → AllOf C ks
-    → (bs : List Back) × (e : Detector) × Feeds d ks bs e × T e
+abbrev pub AllAnsweredFromNew : Type 0
+AllAnsweredFromNew = (d : Detector) → Starts d → (ks : List Call) → (bs : List Back) × (e : Detector) × Feeds d ks bs e
 
 abbrev pub EachAnswered : Type 0
 EachAnswered = (d e : Detector) (ks : List Call) (bs : List Back) → Feeds d ks bs e → length bs ≡ length ks

@@ -19,6 +19,7 @@ use Rattle.detector.specs.declared.reply.Reply.{Reply}
 use Rattle.detector.specs.declared.reply.Reply.the-variants.{Reports, Refused}
 use Rattle.demands.specs.Reached.{answer, Reached}
 use Rattle.demands.specs.Feeds.{Call, Back, Feeds, Starts}
+use Rattle.demands.specs.Typed.{Typed}
 
 -- THE RULES' RUN over the same calls: the refusal's number, or the number of reports; and every byte of the buffer
 abbrev pub replied : Tables → ℕ → Event → Reply
@@ -64,9 +65,8 @@ Coincide =
     (d e d′ e′ : Detector) (ks : List Call) (bs bs′ : List Back) → Starts d → Feeds d ks bs e → Starts d′ → Feeds d′ ks bs′ e′
     → (bs ≡ bs′) × (tables e ≡ tables e′)
 
--- nor does it in one call (`steps-coincide`), from any state and with any event and buffer: two results are one. That there
--- are 16 queues is what the type says.
+-- nor does it in one call (`steps-coincide`), from any state that the types hold and with any event and buffer: two results
+-- are one. A 17th queue, which the type has not, could hold anything behind its end.
 abbrev pub StepsCoincide : Type 0
 StepsCoincide =
-    (d : Detector) (ev : Event) (r q : Answered) (b e f : List ℕ) → length (r .detector .rest .«cv_waiters») ≡ 16
-    → length (q .detector .rest .«cv_waiters») ≡ 16 → Steps d ev r b e → Steps d ev q b f → (r ≡ q) × (e ≡ f)
+    (d : Detector) (ev : Event) (r q : Answered) (b e f : List ℕ) → Typed d → Steps d ev r b e → Steps d ev q b f → (r ≡ q) × (e ≡ f)

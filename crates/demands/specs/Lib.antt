@@ -4,6 +4,7 @@ pub mod Reached
 pub mod Sessions
 pub mod Invariants
 pub mod Feeds
+pub mod Typed
 pub mod Demand1
 pub mod Demand2
 pub mod Demand3
