@@ -1,5 +1,5 @@
 -- The proofs of the statements in specs/, with the theorems' names.
--- sessions-hold, further-hold
+-- sessions-hold, further-hold, waits-hold
 pub mod Sessions
 -- what the rules of waiting, the judgements and the events keep
 pub mod Keeping

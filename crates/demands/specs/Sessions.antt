@@ -2,6 +2,7 @@
 use mathlib.Core.Path.{_≡_}
 use mathlib.Core.List.{List, [], _∷_, _++_, map}
 use Prim.Native.Nat.{ℕ}
+use lib.ListN.{getD}
 use Rattle.sets.specs.Sets.{upward}
 use Rattle.sets.specs.Below.{each}
 use Rattle.graph.specs.Search.{row}
@@ -13,12 +14,13 @@ use Rattle.waits.specs.declared.intent.Awaits.the-variants.{Nothing, For}
 use Rattle.waits.specs.declared.outcome.Outcome.{Outcome}
 use Rattle.waits.specs.declared.outcome.Outcome.the-variants.{Took, Blocked, Hinted}
 use Rattle.waits.specs.declared.outcome.Tried.the-variants.{Taken}
-use Rattle.detector.specs.Tables.{Tables, Answer, empty}
+use Rattle.detector.specs.Tables.{Tables, Answer, empty, noWait, blankWait}
 use Rattle.detector.specs.Refusals.{refusal}
 use Rattle.detector.specs.Stuck.{stuckCount}
 use Rattle.detector.specs.declared.event.Event.{Event}
-use Rattle.detector.specs.declared.event.Event.the-variants.{MutexAttempt, MutexAcquired, MutexReleased, MutexExit, RwReadAttempt, RwReadAcquired, RwReadTry, RwReadReleased, RwWriteAttempt, RwWriteAcquired, RwWriteReleased, RwExit, CondvarWaitBegin, CondvarNotifyOne, CondvarNotifyAll, CondvarWaitEnd}
-use Rattle.demands.specs.Reached.{answer, room}
+use Rattle.detector.specs.declared.event.Event.the-variants.{MutexAttempt, MutexAcquired, MutexReleased, MutexExit, RwReadAttempt, RwReadAcquired, RwReadTry, RwReadReleased, RwWriteAttempt, RwWriteAcquired, RwWriteReleased, RwExit, CondvarSpawn, CondvarExit, CondvarWaitBegin, CondvarNotifyOne, CondvarNotifyAll, CondvarWaitEnd}
+use Rattle.detector.specs.declared.state.CvWait.{CvWait}
+use Rattle.demands.specs.Reached.{answer, room, after}
 
 -- two numbers side by side: a thread and the lock that it awaits, or an edge
 abbrev pub Pairs : Type 0
@@ -110,6 +112,12 @@ wr t l = RwWriteReleased t l
 
 abbrev pub rd : ℕ → Event
 rd l = RwExit l
+
+abbrev pub cn : ℕ → Event
+cn c = CondvarSpawn c
+
+abbrev pub cd : ℕ → Event
+cd c = CondvarExit c
 
 abbrev pub cb : ℕ → ℕ → ℕ → Event
 cb t c l = CondvarWaitBegin t c l
@@ -216,7 +224,8 @@ sessions =
     ∷ [])
     ∷ []
 
--- FURTHER SESSIONS, for rules that P1 to P10 do not tell from others
+-- FURTHER SESSIONS, not document 01's: for rules that P1 to P10 do not tell from others, and so that each of the 18 words
+-- stands in one
 unfoldable pub further : List Session
 further =
     -- stuck goes by true waits, not by edges; a hint is recorded, and refreshes nobody else
@@ -297,6 +306,18 @@ further =
     ∷ quiet (cb 3 0 5) [] [] 0
     ∷ quiet (ca 0) ((2, 1) ∷ (3, 1) ∷ []) ((2, 5) ∷ (3, 5) ∷ []) 0
     ∷ [])
+    -- cn and cd empty one queue: nobody is left there to wake
+    ∷ session 23
+    (quiet (ma 1 5 took) [] [] 0
+    ∷ quiet (cb 2 0 5) [] [] 0
+    ∷ quiet (cb 3 1 5) [] [] 0
+    ∷ quiet (cn 0) [] [] 0
+    ∷ quiet (c1 0) [] [] 0
+    ∷ quiet (cb 2 0 5) [] [] 0
+    ∷ quiet (cd 0) [] [] 0
+    ∷ quiet (ca 0) [] [] 0
+    ∷ quiet (c1 1) ((3, 1) ∷ []) ((3, 5) ∷ []) 0
+    ∷ [])
     ∷ []
 
 -- what the rules say of the sessions' events, and what document 01 says of them
@@ -306,7 +327,15 @@ ruled ss = map (λ s. run empty (map (λ k. k .event) (s .lines))) ss
 unfoldable pub told : List Session → List (List Seen)
 told ss = map (λ s. map (λ k. k .says) (s .lines)) ss
 
--- THE THEOREMS (`sessions-hold`, `further-hold`)
+-- cn keeps a thread's wait and cd drops it: no later event tells them apart, the tables do
+abbrev pub waitAfter : List Event → ℕ → CvWait
+waitAfter es t = getD (after empty es .«thread_wait_cv») t blankWait
+
+pub record WaitsHold : Type 0 where
+  pub spawned : waitAfter (cb 2 0 5 ∷ cn 0 ∷ []) 2 ≡ record { condvar = 0; lock = 5 }
+  pub gone : waitAfter (cb 2 0 5 ∷ cd 0 ∷ []) 2 ≡ noWait
+
+-- THE THEOREMS (`sessions-hold`, `further-hold`, `waits-hold`)
 abbrev pub SessionsHold : Type 0
 SessionsHold = ruled sessions ≡ told sessions
 

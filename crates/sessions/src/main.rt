@@ -77,10 +77,14 @@ fn p1() {
     sums(d);
 }
 
-// Edges stored.
+// Edges stored and stuck threads; of a state that is not valid only the edges.
 fn sums(d: Detector) {
     say(b"edges ");
     say_number(d.edges_stored());
+    if d.is_valid() {
+        say(b" stuck ");
+        say_number(d.stuck());
+    }
     say(b"\n");
 }
 
@@ -151,7 +155,7 @@ fn p7() {
 }
 
 fn p8() {
-    say(b"P8: a thread woken, P9: a write of a free lock\n");
+    say(b"P8: a thread woken\n");
     let mut d = Detector::new();
     d = play(d, Event::MutexAttempt(1, 5, Outcome::Took));
     d = play(d, Event::CondvarWaitBegin(2, 0, 5));
@@ -159,7 +163,11 @@ fn p8() {
     sums(d);
     d = play(d, Event::CondvarWaitEnd(2, 0, 5));
     sums(d);
-    d = Detector::new();
+}
+
+fn p9() {
+    say(b"P9: a write of a free lock\n");
+    let mut d = Detector::new();
     d = play(d, Event::RwWriteAttempt(4, 7, Outcome::Blocked));
     sums(d);
 }
@@ -174,6 +182,44 @@ fn p10() {
     d = play(d, Event::MutexAcquired(32, 64));
     d = play(d, Event::MutexAttempt(1, 64, Outcome::Hinted(32)));
     d = play(d, Event::CondvarWaitBegin(1, 16, 64));
+    sums(d);
+}
+
+// The words that P1 to P10 leave out, in sessions of our own.
+fn ours_locks() {
+    say(b"ours: wc, wr, mc, mr, md\n");
+    let mut d = Detector::new();
+    d = play(d, Event::RwWriteAcquired(2, 7));
+    d = play(d, Event::RwWriteAttempt(4, 7, Outcome::Blocked));
+    sums(d);
+    d = play(d, Event::RwWriteReleased(2, 7));
+    sums(d);
+    d = play(d, Event::MutexAcquired(1, 5));
+    d = play(d, Event::MutexAttempt(2, 5, Outcome::Blocked));
+    sums(d);
+    d = play(d, Event::MutexReleased(1, 5));
+    sums(d);
+    d = play(d, Event::MutexAcquired(3, 5));
+    sums(d);
+    d = play(d, Event::MutexExit(5));
+    sums(d);
+}
+
+fn ours_condvars() {
+    say(b"ours: rc, cn, cd, ca\n");
+    let mut d = Detector::new();
+    d = play(d, Event::RwReadAcquired(1, 5));
+    d = play(d, Event::MutexAcquired(1, 5));
+    d = play(d, Event::CondvarWaitBegin(2, 0, 5));
+    d = play(d, Event::CondvarSpawn(0));
+    d = play(d, Event::CondvarNotifyOne(0));
+    d = play(d, Event::CondvarWaitBegin(2, 0, 5));
+    d = play(d, Event::CondvarExit(0));
+    d = play(d, Event::CondvarNotifyAll(0));
+    sums(d);
+    d = play(d, Event::CondvarWaitBegin(2, 0, 5));
+    d = play(d, Event::CondvarWaitBegin(3, 0, 5));
+    d = play(d, Event::CondvarNotifyAll(0));
     sums(d);
 }
 
@@ -246,7 +292,10 @@ fn main() {
     p6();
     p7();
     p8();
+    p9();
     p10();
+    ours_locks();
+    ours_condvars();
     full_queue();
     full_count();
     short_buffer();
