@@ -1,25 +1,21 @@
 -- The demands carried to what `step` returns, by its promise alone.
 use mathlib.Core.Path.{_≡_, refl, sym, ap, ap₂, _∙_, subst, subst₂}
 use mathlib.Core.List.{List, [], _∷_, _++_}
-use mathlib.Core.Bool.{Bool, true, false, cond}
+use mathlib.Core.Bool.{true}
 use Prim.Native.Nat.{ℕ, zero, suc, _<_}
 use native.Mathlib.Omega.{arith}
 use native.Mathlib.Decide.{ℕ-discrete}
-use lib.Dec.{eqb, ltb}
 use lib.ListN.{length, length-map}
 use borrow.Author.Tests.{ne-eqb}
 use Rattle.waits.specs.Report.{written}
-use Rattle.waits.specs.Owners.{countOf}
 use Rattle.waits.specs.Code.{laid}
 use Rattle.waits.specs.declared.outcome.Outcome.{Outcome}
-use Rattle.waits.specs.declared.outcome.Outcome.the-variants.{Took, Blocked, Hinted}
-use Rattle.waits.specs.declared.outcome.Tried.the-variants.{Taken, Missed}
 use Rattle.waits.proofs.Telling.{laid-none}
-use Rattle.detector.specs.Tables.{Tables, Answer, empty, queueOf}
-use Rattle.detector.specs.Refusals.{Numbers, numbersOf, outside, full, refusal}
+use Rattle.detector.specs.Tables.{Tables, Answer, empty}
+use Rattle.detector.specs.Refusals.{refusal}
 use Rattle.detector.specs.State.{pairsOf, tables, Valid, refusalOf, refusedBy, reportsIn, Steps}
 use Rattle.detector.specs.declared.event.Event.{Event}
-use Rattle.detector.specs.declared.event.Event.the-variants.{MutexAttempt, MutexAcquired, MutexReleased, MutexExit, RwReadReleased, RwWriteAttempt, RwWriteAcquired, RwWriteReleased, RwExit, CondvarSpawn, CondvarExit, CondvarNotifyOne, CondvarNotifyAll, CondvarWaitEnd, RwReadAttempt, RwReadAcquired, RwReadTry, CondvarWaitBegin}
+use Rattle.detector.specs.declared.event.Event.the-variants.{MutexAttempt, RwWriteAttempt, RwReadAttempt}
 use Rattle.detector.specs.declared.state.Detector.{Detector}
 use Rattle.detector.specs.declared.reply.Answered.{Answered}
 use Rattle.detector.specs.declared.reply.Reply.{Reply}
@@ -35,6 +31,7 @@ use Rattle.demands.proofs.Invariants.{first-half}
 use Rattle.demands.proofs.Exact.{second-half}
 use Rattle.demands.proofs.Entry.{entry, starts-typed, served-held}
 use Rattle.detector.proofs.Validity.{valid-tested}
+use Rattle.detector.proofs.Numbers.{refusal-known}
 use Rattle.detector.proofs.SameState.{same-state}
 
 -- ---- DEMAND 1
@@ -93,43 +90,6 @@ reached-ends (k ∷ ks) x r = reached-ends ks (onward x k) (reached-next x (leng
 
 -- ---- no rule gives number 2
 
-if-two : (b : Bool) (n m : ℕ) → (n ≡ 2 → ⊥) → (m ≡ 2 → ⊥) → cond b n m ≡ 2 → ⊥
-if-two true n m p q e = p e
-if-two false n m p q e = q e
-
-full-two : (x : Tables) (e : Event) → full x e ≡ 2 → ⊥
-full-two x (RwReadAttempt t l Took) e = if-two (eqb (countOf (x .«rwlock_readers») l t) 255) 8 0 (λ z. omega arith) (λ z. omega arith) e
-full-two x (RwReadAttempt t l Blocked) e = omega arith
-full-two x (RwReadAttempt t l (Hinted o)) e = omega arith
-full-two x (RwReadAcquired t l) e = if-two (eqb (countOf (x .«rwlock_readers») l t) 255) 8 0 (λ z. omega arith) (λ z. omega arith) e
-full-two x (RwReadTry t l Taken) e = if-two (eqb (countOf (x .«rwlock_readers») l t) 255) 8 0 (λ z. omega arith) (λ z. omega arith) e
-full-two x (RwReadTry t l Missed) e = omega arith
-full-two x (CondvarWaitBegin t c l) e = if-two (ltb (length (queueOf x c)) 32) 0 7 (λ z. omega arith) (λ z. omega arith) e
-full-two x (MutexAttempt t l o) e = omega arith
-full-two x (MutexAcquired t l) e = omega arith
-full-two x (MutexReleased t l) e = omega arith
-full-two x (MutexExit l) e = omega arith
-full-two x (RwReadReleased t l) e = omega arith
-full-two x (RwWriteAttempt t l o) e = omega arith
-full-two x (RwWriteAcquired t l) e = omega arith
-full-two x (RwWriteReleased t l) e = omega arith
-full-two x (RwExit l) e = omega arith
-full-two x (CondvarSpawn c) e = omega arith
-full-two x (CondvarExit c) e = omega arith
-full-two x (CondvarNotifyOne c) e = omega arith
-full-two x (CondvarNotifyAll c) e = omega arith
-full-two x (CondvarWaitEnd t c l) e = omega arith
-
-outside-two : (n : Numbers) (m last : ℕ) → (last ≡ 2 → ⊥) → outside n m last ≡ 2 → ⊥
-unfolding outside
-outside-two n m last h =
-    if-two (ltb 31 (n .thread)) 3 _ (λ z. omega arith) (if-two (ltb 31 (n .hint)) 3 _ (λ z. omega arith) (if-two (ltb 63 (n .lock)) 4 _ (λ z. omega arith)
-    (if-two (ltb 15 (n .condvar)) 5 _ (λ z. omega arith) (if-two (ltb m 2080) 6 last (λ z. omega arith) h))))
-
-refusal-two : (x : Tables) (n : ℕ) (e : Event) → refusal x n e ≡ 2 → ⊥
-unfolding refusal
-refusal-two x n e = outside-two (numbersOf e) n (full x e) (full-two x e)
-
 refused-replied : (x : Tables) (n : ℕ) (e : Event) → refusedBy (replied x n e) ≡ refusal x n e
 refused-replied x n e = go (ℕ-discrete (refusal x n e) 0)
   where
@@ -140,7 +100,10 @@ refused-replied x n e = go (ℕ-discrete (refusal x n e) 0)
 no-two : (ks : List Call) (x : Tables) → NoTwo (backs x ks)
 unfolding backs
 no-two [] x = tt
-no-two (k ∷ ks) x = (λ z. refusal-two x (length (k .lent)) (k .event) (sym (refused-replied x (length (k .lent)) (k .event)) ∙ z), no-two ks (onward x k))
+no-two (k ∷ ks) x = (
+  λ z. let n = refusal-known x (length (k .lent)) (k .event) in absurd (omega (arith, refused-replied x (length (k .lent)) (k .event), z, n .least (omega (arith, refused-replied x (length (k .lent)) (k .event), z)))),
+  no-two ks (onward x k),
+)
 
 -- ---- DEMANDS 2 AND 3
 

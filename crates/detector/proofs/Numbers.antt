@@ -1,18 +1,21 @@
--- What it means that an event is not refused.
+-- What it means that an event is not refused, and by which numbers one is.
 use mathlib.Core.Path.{_≡_, refl, sym, ap, _∙_}
 use mathlib.Core.Bool.{Bool, true, false, cond}
-use Prim.Native.Nat.{ℕ, _<_}
+use Prim.Native.Nat.{ℕ, _<_, _≤_}
 use native.Mathlib.Omega.{arith}
 use native.Mathlib.Decide.{decLt}
-use lib.Dec.{ltb}
+use lib.Dec.{ltb, eqb, lit≤}
 use lib.ListN.{getD, length, List·getD-map}
 use lib.Seq.{length-take-le}
 use borrow.Author.Tests.{ltb-true, ltb-false, le-ltb}
-use Rattle.detector.specs.Tables.{queueOf}
-use Rattle.detector.specs.Refusals.{Numbers, Inside, numbersOf, outside, fullQueue, full, refusal}
-use Rattle.detector.specs.Tables.{Tables}
+use Rattle.waits.specs.Owners.{countOf}
+use Rattle.waits.specs.declared.outcome.Outcome.the-variants.{Took, Blocked, Hinted}
+use Rattle.waits.specs.declared.outcome.Tried.the-variants.{Taken, Missed}
+use Rattle.detector.specs.Tables.{Tables, queueOf}
+use Rattle.detector.specs.Refusals.{Numbers, Inside, numbersOf, outside, fullQueue, fullCount, full, refusal}
 use Rattle.detector.specs.State.{tables, pairsOf, blankQueue, Valid}
 use Rattle.detector.specs.declared.event.Event.{Event}
+use Rattle.detector.specs.declared.event.Event.the-variants.{MutexAttempt, MutexAcquired, MutexReleased, MutexExit, RwReadAttempt, RwReadAcquired, RwReadTry, RwReadReleased, RwWriteAttempt, RwWriteAcquired, RwWriteReleased, RwExit, CondvarSpawn, CondvarExit, CondvarWaitBegin, CondvarNotifyOne, CondvarNotifyAll, CondvarWaitEnd}
 use Rattle.detector.specs.declared.state.Detector.{Detector}
 
 abbrev chosen : Bool → Bool → Bool → Bool → Bool → ℕ → ℕ
@@ -75,6 +78,60 @@ accepted x room e r = go (outside (numbersOf e) room 0) refl
         yes-no (no h) =
             let i = inside (numbersOf e) room (omega (arith, q)) in
             record { inside = i; notFull = sym (inside-next (numbersOf e) room (full x e) i) ∙ r }
+
+-- ---- the numbers there are
+
+-- 0, or from 3 to 8
+pub record Known (k : ℕ) : Type 0 where
+  pub least : 0 < k → 3 ≤ k
+  pub most : k ≤ 8
+
+known : (k : ℕ) → 3 ≤ k → k ≤ 8 → Known k
+known k h i = record { least = λ z. h; most = i }
+
+known-none : Known 0
+known-none = record { least = λ z. absurd (omega arith); most = lit≤ tt }
+
+known-if : (b : Bool) {n m : ℕ} → Known n → Known m → Known (cond b n m)
+known-if true p q = p
+known-if false p q = q
+
+module _ (x : Tables) where
+  count-known : (t l : ℕ) → Known (fullCount x t l)
+  count-known t l = known-if (eqb (countOf (x .«rwlock_readers») l t) 255) (known 8 (lit≤ tt) (lit≤ tt)) known-none
+
+  full-known : (e : Event) → Known (full x e)
+  full-known (RwReadAttempt t l Took) = count-known t l
+  full-known (RwReadAttempt t l Blocked) = known-none
+  full-known (RwReadAttempt t l (Hinted o)) = known-none
+  full-known (RwReadAcquired t l) = count-known t l
+  full-known (RwReadTry t l Taken) = count-known t l
+  full-known (RwReadTry t l Missed) = known-none
+  full-known (CondvarWaitBegin t c l) = known-if (ltb (length (queueOf x c)) 32) known-none (known 7 (lit≤ tt) (lit≤ tt))
+  full-known (MutexAttempt t l o) = known-none
+  full-known (MutexAcquired t l) = known-none
+  full-known (MutexReleased t l) = known-none
+  full-known (MutexExit l) = known-none
+  full-known (RwReadReleased t l) = known-none
+  full-known (RwWriteAttempt t l o) = known-none
+  full-known (RwWriteAcquired t l) = known-none
+  full-known (RwWriteReleased t l) = known-none
+  full-known (RwExit l) = known-none
+  full-known (CondvarSpawn c) = known-none
+  full-known (CondvarExit c) = known-none
+  full-known (CondvarNotifyOne c) = known-none
+  full-known (CondvarNotifyAll c) = known-none
+  full-known (CondvarWaitEnd t c l) = known-none
+
+  pub refusal-known : (room : ℕ) (e : Event) → Known (refusal x room e)
+  unfolding refusal outside
+  refusal-known room e =
+      let n = numbersOf e in
+      let three = known 3 (lit≤ tt) (lit≤ tt) in
+      known-if (ltb 31 (n .thread)) three (known-if (ltb 31 (n .hint)) three (known-if (ltb 63 (n .lock)) (known 4 (lit≤ tt) (lit≤ tt))
+      (known-if (ltb 15 (n .condvar)) (known 5 (lit≤ tt) (lit≤ tt)) (known-if (ltb room 2080) (known 6 (lit≤ tt) (lit≤ tt)) (full-known e)))))
+
+-- ---- queues
 
 -- a queue's length as the code keeps it
 pub queue-at : (d : Detector) (c : ℕ) → queueOf (tables d) c ≡ pairsOf (getD (d .rest .«cv_waiters») c blankQueue)
