@@ -20,6 +20,7 @@ use Rattle.detector.specs.declared.reply.Answered.{Answered}
 use Rattle.detector.specs.declared.reply.Reply.the-variants.{Reports, Refused}
 use Rattle.detector.proofs.Validity.{Shaped, tested-valid}
 use Rattle.detector.proofs.Numbers.{queue-at, queue-length}
+use Rattle.detector.proofs.Queues.{pairs-none}
 use Rattle.detector.proofs.Serving.{refuse, tested, untested}
 use Rattle.demands.specs.Invariants.{Seated, KeptWith}
 use Rattle.demands.specs.Feeds.{Starts}
@@ -43,18 +44,13 @@ zeros-length : (n : ℕ) → length (replicate n noPair) ≡ n
 zeros-length zero = refl
 zeros-length (suc n) = ap suc (zeros-length n)
 
-zeros-at : (n k : ℕ) → getD (replicate n noPair) k noPair ≡ noPair
-zeros-at zero k = refl
-zeros-at (suc n) zero = refl
-zeros-at (suc n) (suc k) = zeros-at n k
-
 seat-at : (P : Pair → Type 0) → P noPair → ((p : Pair) → p .thread < 32 → p .lock < 64 → P p) → (q : List Pair) (n k : ℕ) → Seated q → P (getD (q ++ replicate n noPair) k noPair)
-seat-at P z h [] n k s = subst P (sym (zeros-at n k)) z
+seat-at P z h [] n k s = subst P (sym (pairs-none n k)) z
 seat-at P z h (p ∷ q) n zero s = h p (s .0) (s .1)
 seat-at P z h (p ∷ q) n (suc k) s = seat-at P z h q n k (s .2)
 
 behind-at : (q : List Pair) (n k : ℕ) → length q ≤ k → getD (q ++ replicate n noPair) k noPair ≡ noPair
-behind-at [] n k h = zeros-at n k
+behind-at [] n k h = pairs-none n k
 behind-at (p ∷ q) n zero h = absurd (omega arith)
 behind-at (p ∷ q) n (suc k) h = behind-at q n k (omega arith)
 

@@ -51,7 +51,7 @@ use Rattle.detector.specs.declared.event.Event.the-variants.{MutexAttempt, RwRe
 use Rattle.demands.specs.Invariants.{Fine, Kept}
 use Rattle.demands.specs.Demand3.{Exact, Alone, Apt, Shared, Spared, SecondHalf}
 use Rattle.demands.proofs.Fine.{unwaited-graph, fine-own, fine-write, fine-set}
-use Rattle.demands.proofs.Reports.{both-true}
+use Rattle.detector.proofs.Validity.{both}
 use Rattle.detector.proofs.Numbers.{accepted}
 use Rattle.demands.proofs.Events.{served}
 use Rattle.demands.proofs.Invariants.{reached-kept}
@@ -202,8 +202,8 @@ tells-none c w h = (λ r. absurd (omega arith), λ z. absurd (no-cycle (True c w
 
 held-all : (w : Waits) (l : ℕ) (p : List ℕ) → allHold w l p ≡ true → (t : ℕ) → In t p → has (holdsOf w t) l ≡ true
 unfolding allHold
-held-all w l (s ∷ p) e t (inl q) = ap (λ (z : ℕ). has (holdsOf w z) l) q ∙ both-true (has (holdsOf w s) l) (allHold w l p) e .0
-held-all w l (s ∷ p) e t (inr m) = held-all w l p (both-true (has (holdsOf w s) l) (allHold w l p) e .1) t m
+held-all w l (s ∷ p) e t (inl q) = ap (λ (z : ℕ). has (holdsOf w z) l) q ∙ both (has (holdsOf w s) l) (allHold w l p) e .0
+held-all w l (s ∷ p) e t (inr m) = held-all w l p (both (has (holdsOf w s) l) (allHold w l p) e .1) t m
 
 all-held : (w : Waits) (l : ℕ) (p : List ℕ) → ((t : ℕ) → In t p → has (holdsOf w t) l ≡ true) → allHold w l p ≡ true
 unfolding allHold
@@ -240,7 +240,7 @@ unfolding commonLocks
 shared-of c w p e =
     let s = something (those (λ l. cond (allHold w l p) (unread c l) false) 64) e in
     let q = those-in (λ l. cond (allHold w l p) (unread c l) false) 64 (s .0) (s .1) in
-    let b = both-true (allHold w (s .0) p) (unread c (s .0)) (q .1) in
+    let b = both (allHold w (s .0) p) (unread c (s .0)) (q .1) in
     record { lock = s .0; inside = q .0; held = held-all w (s .0) p (b .0); unread = unread-zero c (s .0) (b .1) }
 
 of-shared : (c : List ℕ) (w : Waits) (p : List ℕ) → passes c w p ≡ true → Shared c w p → ⊥

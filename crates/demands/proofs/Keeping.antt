@@ -35,6 +35,7 @@ use Rattle.detector.specs.declared.event.Event.the-variants.{MutexAttempt, Mute
 use Rattle.detector.specs.declared.state.Pair.{Pair}
 use Rattle.detector.specs.declared.state.CvWait.{CvWait}
 use Rattle.detector.proofs.Numbers.{accepted}
+use Rattle.detector.proofs.Queues.{waiting-none, waiting-some}
 use Rattle.demands.specs.Reached.{answer}
 use Rattle.demands.specs.Invariants.{Counts, Seated, KeptWith}
 
@@ -55,9 +56,6 @@ pub record Rules (P : Waits → Type 0) : Type 0 where
 record Sleeping (v : List CvWait) : Type 0 where
   size : length v ≡ 32
   all : (t : ℕ) → Waiting (getD v t blankWait)
-
-waiting-none : Waiting noWait
-waiting-none = record { condvar = lit≤ tt; lock = omega arith; absent = λ e. refl }
 
 sleeping-set : (v : List CvWait) (t : ℕ) (p : CvWait) → Waiting p → Sleeping v → Sleeping (set v t p)
 sleeping-set v t p h s = record { size = simp length-set (s .size); all = set-all Waiting v t p blankWait h (s .all) }
@@ -311,7 +309,7 @@ module _ {P : Waits → Type 0} (rules : Rules P) where
     unfolding beginWait
     kept-begin t c l h i j e =
         put-queue x c _ _ (go (ltb (length (queueOf x c)) 32) refl e) (seated-snoc (queueOf x c) (record { thread = t; lock = l }) h i (k .seated c))
-        (sleeping-set _ t (record { condvar = c; lock = l }) (record { condvar = omega arith; lock = i; absent = λ z. absurd (omega arith) }) (asleep x k)) k
+        (sleeping-set _ t (record { condvar = c; lock = l }) (waiting-some c l j i) (asleep x k)) k
       where
         go : (b : Bool) → ltb (length (queueOf x c)) 32 ≡ b → cond {A = ℕ} b 0 7 ≡ 0 → length (queueOf x c ++ (record { thread = t; lock = l } ∷ [])) ≤ 32
         go true p z = omega (arith, length-append (queueOf x c) (record { thread = t; lock = l } ∷ []), ltb-true (length (queueOf x c)) 32 p)

@@ -22,6 +22,7 @@ use Rattle.waits.specs.declared.intent.Awaits.{Awaits}
 use Rattle.waits.specs.declared.intent.Awaits.the-variants.{Nothing, For}
 use Rattle.waits.proofs.Laws.{fits-register, fits-refresh, fits-locks}
 use Rattle.waits.proofs.Telling.{length-bytes}
+use Rattle.detector.proofs.Validity.{both}
 use Rattle.demands.specs.Sessions.{printed}
 use Rattle.demands.specs.Invariants.{Fine}
 use Rattle.demands.specs.Demand3.{Blocks, Around, Closed, TrueCycle, flat, spelled, Each}
@@ -51,14 +52,10 @@ waits-blocks c w a b e = go (intentOf w a) refl (among-in b _ e)
     go Nothing q m = absurd m
     go (For i) q m = record { intent = i; awaits = q; beside = sym (ap lockOf q); owns = m }
 
-pub both-true : (a b : Bool) → cond a b false ≡ true → (a ≡ true) × (b ≡ true)
-both-true true b e = (refl, e)
-both-true false b e = absurd (false≢true e)
-
 around-true : (c : List ℕ) (w : Waits) (f a : ℕ) (r : List ℕ) → around c w f a r ≡ true → Around c w f (seat w a) (map (seat w) r)
 unfolding around
 around-true c w f a [] e = waits-blocks c w a f e
-around-true c w f a (b ∷ r) e = let h = both-true (waitsFor c w a b) (around c w f b r) e in (waits-blocks c w a b (h .0), around-true c w f b r (h .1))
+around-true c w f a (b ∷ r) e = let h = both (waitsFor c w a b) (around c w f b r) e in (waits-blocks c w a b (h .0), around-true c w f b r (h .1))
 
 valid-closed : (c : List ℕ) (w : Waits) (p : List ℕ) → valid c w p ≡ true → Closed c w (map (seat w) p)
 unfolding valid

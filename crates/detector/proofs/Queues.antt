@@ -40,7 +40,7 @@ put-keeps P (x ∷ l) zero (suc k) v d p h = h
 put-keeps P (x ∷ l) (suc i) zero v d p h = h
 put-keeps P (x ∷ l) (suc i) (suc k) v d p h = put-keeps P l i k v d p h
 
-pairs-none : (n k : ℕ) → getD (replicate n noPair) k noPair ≡ noPair
+pub pairs-none : (n k : ℕ) → getD (replicate n noPair) k noPair ≡ noPair
 pairs-none zero k = refl
 pairs-none (suc n) zero = refl
 pairs-none (suc n) (suc k) = pairs-none n k

@@ -21,7 +21,7 @@ use Rattle.detector.specs.declared.state.CvWait.{CvWait}
 use Rattle.detector.specs.declared.state.Detector.{Detector}
 
 -- two tests, the second where the first holds
-both : (a b : Bool) → cond a b false ≡ true → (a ≡ true) × (b ≡ true)
+pub both : (a b : Bool) → cond a b false ≡ true → (a ≡ true) × (b ≡ true)
 both true b e = (refl, e)
 both false b e = absurd (false≢true e)
 
