@@ -43,7 +43,7 @@ use Rattle.waits.specs.declared.outcome.Outcome.the-variants.{Took, Blocked, Hi
 use Rattle.waits.proofs.Laws.{owners-lt}
 use Rattle.detector.specs.Tables.{Tables}
 use Rattle.detector.specs.Mutex.{acquireSlow}
-use Rattle.detector.specs.RwLock.{acquireRead, readOn, writeOn, free, blockWrite, acquireWrite}
+use Rattle.detector.specs.RwLock.{acquireRead, acquireWrite}
 use Rattle.detector.specs.Events.{apply}
 use Rattle.detector.specs.Refusals.{Inside, numbersOf}
 use Rattle.detector.specs.Stuck.{Truly}

@@ -7,7 +7,7 @@ use Rattle.detector.specs.Refusals.{refusal, outside}
 use Rattle.detector.specs.Stuck.{stuckCount, trueWaits, anyBack}
 use Rattle.detector.specs.Mutex.{acquired, completeAcquire, acquireSlow, released, releaseMutex, clearNaming, unholdAll, purge, destroyMutex}
 use Rattle.detector.specs.RwLock as rwlock
-use Rattle.detector.specs.RwLock.{countUp, countDown, completeRead, acquireRead, tryRead, loosen, releaseRead, unwritten, releaseWrite, completeWrite, blockWrite, acquireWrite, noReaders, destroyRwLock}
+use Rattle.detector.specs.RwLock.{countUp, countDown, completeRead, acquireRead, tryRead, loosen, releaseRead, unwritten, releaseWrite, completeWrite, acquireWrite, noReaders, destroyRwLock}
 use Rattle.detector.specs.Condvar.{createCondvar, forget, destroyCondvar, beginWait, attempted, wake, wakeAll, notifyOne, notifyAll, leave, endWait}
 use Rattle.waits.specs.Waiting.{clear, setIntent, register, renew, renewAll, refresh, refreshNext, refreshLocks}
 use Rattle.waits.specs.Owners.{readers, waitsFor}

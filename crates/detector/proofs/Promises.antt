@@ -138,7 +138,7 @@ getD-same (suc n) zero v d P p q = p
 getD-same (suc n) (suc k) v d P p q = getD-same n k v d P p q
 
 abbrev pub newRest : Rest
-newRest = record { «rwlock_readers» = replicate 2048 0; «cv_waiters» = replicate 16 emptyQueue; «thread_wait_cv» = replicate 32 noWait }
+newRest = record { «cv_waiters» = replicate 16 emptyQueue; «thread_wait_cv» = replicate 32 noWait }
 
 queued-empty : Queued emptyQueue
 queued-empty =
@@ -150,7 +150,7 @@ queued-empty =
       behind = λ k h. getD-same 32 k noPair noPair (λ p. p ≡ noPair) refl refl;
     }
 
-pub valid-new : Valid (record { waits = waiting.empty; «cv_woken» = 0; rest = newRest })
+pub valid-new : Valid (record { waits = waiting.empty; «cv_woken» = 0; «rwlock_readers» = replicate 2048 0; rest = newRest })
 valid-new =
     record {
       waits = range-empty;

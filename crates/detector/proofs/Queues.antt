@@ -245,7 +245,8 @@ queuedState d c q v w m =
     record {
       waits = w;
       «cv_woken» = m;
-      rest = record { «rwlock_readers» = d .rest .«rwlock_readers»; «cv_waiters» = set (d .rest .«cv_waiters») c q; «thread_wait_cv» = v };
+      «rwlock_readers» = d .«rwlock_readers»;
+      rest = record { «cv_waiters» = set (d .rest .«cv_waiters») c q; «thread_wait_cv» = v };
     }
 
 module _ (d : Detector) (c : ℕ) (q : Queue) (l : List Pair) (v : List CvWait) (w : Waits) (m : ℕ) where
@@ -279,7 +280,7 @@ begun d = record { waits = d .waits; woken = d .«cv_woken»; reports = [] }
 
 -- the pairs ps were woken, and the queue of c is left with l
 pub notify-does : (d : Detector) (c : ℕ) (q : Queue) (l ps : List Pair) (a : Awake) (b e : List ℕ) → Valid d → Queued q → pairsOf q ≡ l
-    → Wakes a b e (wakeAll (d .rest .«rwlock_readers») (begun d) ps)
+    → Wakes a b e (wakeAll (d .«rwlock_readers») (begun d) ps)
     → Does (record { detector = queuedState d c q (d .rest .«thread_wait_cv») (a .waits) (a .woken); reports = a .reports }) b e (notify (tables d) c ps l)
 notify-does d c q l ps a b e h u f k =
     rw (← k .waits, ← k .woken)
@@ -294,7 +295,7 @@ module _ (d : Detector) (c : ℕ) (h : Valid d) (s : c < 16) where
   pub first-does : (q : Queue) (a : Awake) (b e : List ℕ)
       → (let o = getD (d .rest .«cv_waiters») c blankQueue in
       (0 < o .len) → Queued q → pairsOf q ≡ tailOf (pairsOf o)
-      → Wakes a b e (wake (d .rest .«rwlock_readers») (begun d) (getD (o .pairs) 0 noPair))
+      → Wakes a b e (wake (d .«rwlock_readers») (begun d) (getD (o .pairs) 0 noPair))
       → Does (record { detector = queuedState d c q (d .rest .«thread_wait_cv») (a .waits) (a .woken); reports = a .reports }) b e (notifyOne (tables d) c))
   unfolding notifyOne
   first-does q a b e n u f k =

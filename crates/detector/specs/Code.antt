@@ -7,13 +7,13 @@ use lib.ListN.{replicate}
 use Rattle.waits.specs.Tables.{waitersOf, own, write}
 use Rattle.waits.specs.Waiting.{clear}
 use Rattle.waits.specs.Report.{Said}
-use Rattle.waits.specs.Attempt.{settle, blockMutex}
+use Rattle.waits.specs.Attempt.{settle, blockMutex, blockWrite}
 use Rattle.waits.specs.declared.tables.Waits.{Waits}
 use Rattle.waits.specs.declared.outcome.Outcome.{Outcome}
 use Rattle.waits.specs.declared.outcome.Outcome.the-variants.{Took, Blocked, Hinted}
 use Rattle.detector.specs.Tables.{noPair}
 use Rattle.detector.specs.Mutex.{acquired}
-use Rattle.detector.specs.RwLock.{written, blockWrite}
+use Rattle.detector.specs.RwLock.{written}
 use Rattle.detector.specs.declared.state.Pair.{Pair}
 use Rattle.detector.specs.declared.state.Queue.{Queue}
 use Rattle.detector.specs.declared.state.Detector.{Detector}
@@ -23,18 +23,11 @@ use Rattle.detector.specs.declared.reply.Reply.the-variants.{Reports}
 
 -- the state with other waits; with other waits and counts
 abbrev pub putWaits : Detector → Waits → ℕ → Done
-putWaits d w n = record { detector = record { waits = w; «cv_woken» = d .«cv_woken»; rest = d .rest }; reports = n }
+putWaits d w n =
+    record { detector = record { waits = w; «cv_woken» = d .«cv_woken»; «rwlock_readers» = d .«rwlock_readers»; rest = d .rest }; reports = n }
 
 abbrev pub putCounts : Detector → Waits → List ℕ → Done
-putCounts d w c =
-    record {
-      detector = record {
-        waits = w;
-        «cv_woken» = d .«cv_woken»;
-        rest = record { «rwlock_readers» = c; «cv_waiters» = d .rest .«cv_waiters»; «thread_wait_cv» = d .rest .«thread_wait_cv» };
-      };
-      reports = 0;
-    }
+putCounts d w c = record { detector = record { waits = w; «cv_woken» = d .«cv_woken»; «rwlock_readers» = c; rest = d .rest }; reports = 0 }
 
 abbrev pub emptyQueue : Queue
 emptyQueue = record { pairs = replicate 32 noPair; len = 0 }

@@ -1,6 +1,6 @@
 -- The events of a readers-writer lock: ra, rc, rt, rr, wa, wc, wr, rd. Reads never enter the holds.
 use mathlib.Core.List.{List}
-use mathlib.Core.Bool.{Bool, false, cond}
+use mathlib.Core.Bool.{cond}
 use Prim.Native.Nat.{ℕ, _+_, _*_, _-_}
 use lib.Dec.{eqb}
 use lib.ListN.{set}
@@ -10,12 +10,8 @@ use Rattle.graph.specs.Graph.{removeEdgesTo}
 use Rattle.waits.specs.Tables.{waitersOf, writerOf, withGraph, write, hold, unhold}
 use Rattle.waits.specs.Owners.{countOf}
 use Rattle.waits.specs.Waiting.{clear, refresh}
-use Rattle.waits.specs.Filter.{unread}
-use Rattle.waits.specs.Report.{Said, quiet}
-use Rattle.waits.specs.Attempt.{settle, block}
+use Rattle.waits.specs.Attempt.{settle, block, readOn, blockWrite}
 use Rattle.waits.specs.declared.tables.Waits.{Waits}
-use Rattle.waits.specs.declared.intent.WaitIntent.{WaitIntent}
-use Rattle.waits.specs.declared.intent.WaitMode.the-variants.{RwRead, RwWrite}
 use Rattle.waits.specs.declared.outcome.Outcome.{Outcome}
 use Rattle.waits.specs.declared.outcome.Outcome.the-variants.{Took, Blocked, Hinted}
 use Rattle.waits.specs.declared.outcome.Tried.{Tried}
@@ -38,9 +34,6 @@ unfoldable pub completeRead : Tables → ℕ → ℕ → Answer
 completeRead x t l = silent (withCounts x (clear (x .waits) t) (countUp (x .«rwlock_readers») l t))
 
 -- ra t l o: took: as rc. Blocked: a hint becomes writer; register RwRead; validate, no filter
-abbrev pub readOn : ℕ → WaitIntent
-readOn l = record { «lock_id» = l; mode = RwRead }
-
 unfoldable pub acquireRead : Tables → Waits → ℕ → ℕ → Answer
 acquireRead x w t l = said x (block (x .«rwlock_readers») w t (readOn l))
 
@@ -76,16 +69,6 @@ completeWrite x t l = said x (settle (x .«rwlock_readers») (written (x .waits)
 
 -- wa t l o: took: as wc. Blocked: a hint becomes writer; with a reader or writer register RwWrite and validate, no
 -- filter; with neither, nothing, t's old intent stays
-abbrev pub writeOn : ℕ → WaitIntent
-writeOn l = record { «lock_id» = l; mode = RwWrite }
-
--- neither reader nor writer
-abbrev pub free : List ℕ → Waits → ℕ → Bool
-free c w l = cond (unread c l) (eqb (writerOf w l) 32) false
-
-unfoldable pub blockWrite : List ℕ → Waits → ℕ → ℕ → Said
-blockWrite c w t l = cond (free c w l) (quiet w) (block c w t (writeOn l))
-
 unfoldable pub acquireWrite : Tables → Waits → ℕ → ℕ → Answer
 acquireWrite x w t l = said x (blockWrite (x .«rwlock_readers») w t l)
 

@@ -33,7 +33,7 @@ abbrev pub tables : Detector → Tables
 tables d =
     record {
       waits = d .waits;
-      «rwlock_readers» = d .rest .«rwlock_readers»;
+      «rwlock_readers» = d .«rwlock_readers»;
       «cv_waiters» = map pairsOf (d .rest .«cv_waiters»);
       «thread_wait_cv» = d .rest .«thread_wait_cv»;
       «cv_woken» = d .«cv_woken»;

@@ -208,7 +208,7 @@ impl Detector {
         ensures { λ r. ⌜ Does r (now (buf .entry)) (now (buf .exit)) (notifyOne (tables self) c) ⌝ }
     {
         let mut rest = self.rest;
-        let counts = rest.rwlock_readers;
+        let counts = self.rwlock_readers;
         let q = rest.cv_waiters[c];
         let n = q.len;
         if n == 0 {
@@ -243,7 +243,7 @@ impl Detector {
         ensures { λ r. ⌜ Does r (now (buf .entry)) (now (buf .exit)) (notifyAll (tables self) c) ⌝ }
     {
         let mut rest = self.rest;
-        let counts = rest.rwlock_readers;
+        let counts = self.rwlock_readers;
         let q = rest.cv_waiters[c];
         rest.cv_waiters[c] = empty_queue();
         let w = self.waits;

@@ -90,9 +90,9 @@ impl Detector {
         requires { ⌜ (t < 32) × (l < 64) ⌝ }
         ensures { λ r. ⌜ r ≡ fullCount (tables self) t l ⌝ }
     {
-        let rest = self.rest;
+        let counts = self.rwlock_readers;
         let at = l * 32 + t;
-        if rest.rwlock_readers[at] == 255 {
+        if counts[at] == 255 {
             return 8;
         }
         0

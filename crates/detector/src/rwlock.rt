@@ -7,7 +7,7 @@ ghost use Rattle.waits.specs.Tables.{InRange, write};
 ghost use Rattle.waits.specs.Owners.{countOf};
 ghost use Rattle.waits.specs.Report.{reportBytes};
 ghost use Rattle.waits.specs.Code.{Tells};
-ghost use Rattle.detector.specs.RwLock.{countUp, countDown, noReaders, written, unwritten, loosen, blockWrite, readAttempt, completeRead, readTry, releaseRead, writeAttempt, completeWrite, releaseWrite, destroyRwLock};
+ghost use Rattle.detector.specs.RwLock.{countUp, countDown, noReaders, written, unwritten, loosen, readAttempt, completeRead, readTry, releaseRead, writeAttempt, completeWrite, releaseWrite, destroyRwLock};
 ghost use Rattle.detector.specs.Refusals.{hintOf, fullAttempt, fullTry};
 ghost use Rattle.detector.specs.State.{tables, Valid, Does};
 ghost use Rattle.detector.specs.Code.{blocked, triedRead, triedWrite, lookedWrite};
@@ -19,10 +19,7 @@ use sets::locks;
 use waits::Outcome;
 use waits::Told;
 use waits::Tried;
-use waits::WaitIntent;
-use waits::WaitMode;
 use waits::Waits;
-use waits::reader_mask;
 
 fn written_by(mut w: Waits, l: usize, t: usize) -> Waits
     requires { ⌜ InRange w × (l < 64) × (t ≤ 32) ⌝ }
@@ -87,23 +84,6 @@ fn was_blocked(o: Outcome) -> bool
     }
 }
 
-// A free lock blocks nobody.
-fn write_blocked(w: Waits, counts: &[u8; 2048], t: usize, l: usize, buf: &mut [u8]) -> Told
-    requires { ⌜ InRange w × (t < 32) × (l < 64) × (reportBytes ≤ length (now buf)) ⌝ }
-    ensures { λ r. ⌜ Tells r (now (buf .entry)) (now (buf .exit)) 0 (blockWrite (now (counts .entry)) w t l) ⌝ }
-{
-    if reader_mask(counts, l) == 0 {
-        if w.rwlock_writer[l] == 32 {
-            return w.quiet(0);
-        }
-    }
-    let i = WaitIntent {
-        lock_id: l as u8,
-        mode: WaitMode::RwWrite,
-    };
-    w.block(counts, t, i, buf, 0)
-}
-
 fn write_looked(
     w: Waits,
     counts: &[u8; 2048],
@@ -117,8 +97,8 @@ fn write_looked(
 {
     match o {
         Outcome::Took => w.settle(counts, l, buf, 0),
-        Outcome::Blocked => write_blocked(w, counts, t, l, buf),
-        Outcome::Hinted(_) => write_blocked(w, counts, t, l, buf),
+        Outcome::Blocked => w.block_write(counts, t, l, buf, 0),
+        Outcome::Hinted(_) => w.block_write(counts, t, l, buf, 0),
     }
 }
 
@@ -190,11 +170,7 @@ impl Detector {
         let w = read_tried(w0, t, l, o);
         let counts = self.readers();
         if was_blocked(o) {
-            let i = WaitIntent {
-                lock_id: l as u8,
-                mode: WaitMode::RwRead,
-            };
-            let d = w.block(&counts, t, i, buf, 0);
+            let d = w.block_read(&counts, t, l, buf, 0);
             return self.told(d);
         }
         let more = counted_up(counts, t, l);
@@ -203,7 +179,7 @@ impl Detector {
 
     // rc
     pub fn complete_read(self, t: usize, l: usize) -> Done
-        requires { ⌜ Valid self × (t < 32) × (l < 64) × (countOf (self .rest .«rwlock_readers») l t ≡ 255 → ⊥) ⌝ }
+        requires { ⌜ Valid self × (t < 32) × (l < 64) × (countOf (self .«rwlock_readers») l t ≡ 255 → ⊥) ⌝ }
         ensures { λ r. ⌜ ((b : List ℕ) → Does r b b (completeRead (tables self) t l)) ⌝ }
     {
         let w0 = self.waits;

@@ -24,18 +24,18 @@ pub struct CvWait {
     pub lock: u8,
 }
 
-// The tables that few events touch. A count stands at lock * 32 + thread. All bytes: a wider number here would have the
-// compiler copy these tables with every event.
+// The tables of the condition variables. All bytes: a wider number here would have the compiler copy them with every event.
 pub struct Rest {
-    pub rwlock_readers: [u8; 2048],
     pub cv_waiters: [Queue; 16],
     pub thread_wait_cv: [CvWait; 32],
 }
 
-// `cv_woken` stands between the tables that every event may touch and the others: so the compiler can leave these alone.
+// A count stands at lock * 32 + thread. The counts stand beside the condition variables and `cv_woken` between them and the
+// waits: so the compiler can leave alone what an event does not touch.
 pub struct Detector {
     pub waits: Waits,
     pub cv_woken: u32,
+    pub rwlock_readers: [u8; 2048],
     pub rest: Rest,
 }
 
@@ -55,8 +55,8 @@ impl Detector {
         Detector {
             waits,
             cv_woken: 0,
+            rwlock_readers: [0u8; 2048],
             rest: Rest {
-                rwlock_readers: [0u8; 2048],
                 cv_waiters: [Queue {
                     pairs: [Pair { thread: 0, lock: 0 }; 32],
                     len: 0,
@@ -74,10 +74,12 @@ impl Detector {
         ensures { λ r. ⌜ r ≡ putWaits self waits reports ⌝ }
     {
         let cv_woken = self.cv_woken;
+        let rwlock_readers = self.rwlock_readers;
         let rest = self.rest;
         let detector = Detector {
             waits,
             cv_woken,
+            rwlock_readers,
             rest,
         };
         Done { detector, reports }
@@ -91,10 +93,9 @@ impl Detector {
     }
 
     pub fn readers(self) -> [u8; 2048]
-        ensures { λ r. ⌜ r ≡ self .rest .«rwlock_readers» ⌝ }
+        ensures { λ r. ⌜ r ≡ self .«rwlock_readers» ⌝ }
     {
-        let rest = self.rest;
-        rest.rwlock_readers
+        self.rwlock_readers
     }
 
     // The state with other waits and other counts.
@@ -102,17 +103,11 @@ impl Detector {
         ensures { λ r. ⌜ r ≡ putCounts self waits «rwlock_readers» ⌝ }
     {
         let cv_woken = self.cv_woken;
-        let old = self.rest;
-        let cv_waiters = old.cv_waiters;
-        let thread_wait_cv = old.thread_wait_cv;
-        let rest = Rest {
-            rwlock_readers,
-            cv_waiters,
-            thread_wait_cv,
-        };
+        let rest = self.rest;
         let detector = Detector {
             waits,
             cv_woken,
+            rwlock_readers,
             rest,
         };
         Done {

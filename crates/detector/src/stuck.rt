@@ -113,11 +113,10 @@ impl Detector {
     // For each thread, those for which it truly waits.
     pub fn true_waits(self) -> [u32; 32]
         requires { ⌜ Valid self ⌝ }
-        ensures { λ r. ⌜ r ≡ trueWaits (self .rest .«rwlock_readers») (self .waits) ⌝ }
+        ensures { λ r. ⌜ r ≡ trueWaits (self .«rwlock_readers») (self .waits) ⌝ }
     {
         let w = self.waits;
-        let rest = self.rest;
-        let counts = rest.rwlock_readers;
+        let counts = self.rwlock_readers;
         rows_of(w, &counts)
     }
 

@@ -197,7 +197,7 @@ pub record Shaped (d : Detector) : Type 0 where
   pub incoming : length (d .waits .«wait_for_graph» .«incoming_edges») ≡ 32
   pub waiters : length (d .waits .«lock_waiters») ≡ 64
   pub owners : length (d .waits .«mutex_owners») ≡ 64
-  pub counts : (i : ℕ) → getD (d .rest .«rwlock_readers») i 0 < 256
+  pub counts : (i : ℕ) → getD (d .«rwlock_readers») i 0 < 256
   pub writers : length (d .waits .«rwlock_writer») ≡ 64
   pub holds : length (d .waits .«thread_holds») ≡ 32
   pub waits : length (d .rest .«thread_wait_cv») ≡ 32
@@ -232,7 +232,7 @@ module _ (d : Detector) (v : Valid d) (s : Shaped d) where
   mutexes-size =
       both (short (text "lock_waiters") _ _ (omega arith) (sets-size (code ":") 64 _ (s .waiters) (omega arith))) (short (text "mutex_owners") _ _ (omega arith) (owners-size _ (s .owners)))
 
-  rwlocks-size : Short (rwlocksText (d .waits) (d .rest .«rwlock_readers»)) 25134
+  rwlocks-size : Short (rwlocksText (d .waits) (d .«rwlock_readers»)) 25134
   unfolding rwlocksText
   rwlocks-size =
       both (short (text "rwlock_readers") _ _ (omega arith) (readers-size _ (s .counts))) (short (text "rwlock_writer") _ _ (omega arith) (owners-size _ (s .writers)))

@@ -13,14 +13,14 @@ use Rattle.graph.specs.declared.path.Path.{Path}
 use Rattle.graph.proofs.Fits.{found-in}
 use Rattle.waits.specs.Tables.{intentOf, lockOf, waitersOf, InRange}
 use Rattle.waits.specs.Waiting.{Step, register, renewAll, refresh, refreshLocks}
-use Rattle.waits.specs.Report.{Report, Said, report, entries, bytesOf, written, quiet, saying}
+use Rattle.waits.specs.Report.{Report, Said, report, entryBytes, entries, bytesOf, written, quiet, saying}
 use Rattle.waits.specs.Validate.{valid, awaitedLocks, checked, validate}
-use Rattle.waits.specs.Attempt.{judgedOf, judged, sievedOf, sieved, settle, block, blockMutex, mutexOn}
-use Rattle.waits.specs.Code.{told, laid, Tells}
+use Rattle.waits.specs.Attempt.{judgedOf, judged, sievedOf, settle, block, blockMutex, mutexOn, readOn, writeOn, free, blockWrite}
+use Rattle.waits.specs.Code.{told, laid, sievedFor, attemptFor, Tells}
 use Rattle.waits.specs.declared.tables.Waits.{Waits}
 use Rattle.waits.specs.declared.tables.Linked.{Linked}
 use Rattle.waits.specs.declared.tables.Told.{Told}
-use Rattle.waits.specs.declared.intent.WaitIntent.{WaitIntent}
+use Rattle.waits.specs.declared.intent.WaitMode.the-variants.{Mutex, RwRead, RwWrite}
 use Rattle.waits.proofs.Masks.{next-of, done-of}
 
 -- ---- bytes laid into a buffer
@@ -49,7 +49,7 @@ laid-one b at x l = ap (λ (k : ℕ). sets (set b at x) k l) (omega arith)
 
 module _ (w : Waits) (ts : List ℕ) (n : ℕ) (b : n ≤ length ts) where
   pub entry-step : (buf : List ℕ) (at i : ℕ) → i < n
-      → laid (set (set buf at (getD ts i 0)) (at + 1) (lockOf (intentOf w (getD ts i 0)))) (at + 2) (entries w (drop (i + 1) (take n ts)))
+      → laid (set (set buf at (getD ts i 0)) (at + 1) (lockOf (intentOf w (getD ts i 0)))) (at + entryBytes) (entries w (drop (i + 1) (take n ts)))
       ≡ laid buf at (entries w (drop i (take n ts)))
   unfolding entries
   entry-step buf at i h =
@@ -68,13 +68,13 @@ module _ (w : Waits) (ts : List ℕ) (n : ℕ) (b : n ≤ length ts) where
   report-head buf from =
       ap (λ (k : ℕ). laid (set buf from k) (from + 1) (entries w (take n ts))) (sym (length-take-le n ts b)) ∙ sym (laid-one buf from _ _)
 
-pub length-entries : (w : Waits) (p : List ℕ) → length (entries w p) ≡ 2 * length p
+pub length-entries : (w : Waits) (p : List ℕ) → length (entries w p) ≡ entryBytes * length p
 unfolding entries
 length-entries w [] = refl
 length-entries w (t ∷ p) = omega (arith, length-entries w p)
 
--- a report of n threads has 1 + 2 n bytes
-pub length-bytes : (w : Waits) (p : List ℕ) → length (bytesOf (report w p)) ≡ 1 + 2 * length p
+-- a report of n threads has 1 + entryBytes * n bytes
+pub length-bytes : (w : Waits) (p : List ℕ) → length (bytesOf (report w p)) ≡ 1 + entryBytes * length p
 unfolding bytesOf
 length-bytes w p = omega (arith, length-entries w p)
 
@@ -85,7 +85,7 @@ written-one r = append-nil (bytesOf r)
 -- ---- telling
 
 pub say-tells : (w : Waits) (p : Path) (used from : ℕ) (b e : List ℕ) → InRange w → Fit p
-    → (e ≡ laid b from (bytesOf (report w (listOf p)))) → (used ≡ from + 1 + 2 * p .len)
+    → (e ≡ laid b from (bytesOf (report w (listOf p)))) → (used ≡ from + 1 + entryBytes * p .len)
     → Tells (record { waits = w; reports = 1; used = used }) b e from (saying w (listOf p))
 say-tells w p used from b e s f x y =
     let n : length (take (p .len) (p .threads)) ≡ p .len = length-take-le (p .len) (p .threads) (f .cells) in
@@ -140,23 +140,38 @@ module _ (c : List ℕ) (w : Waits) (p : List ℕ) where
     second-quiet k e = subst (λ (k : Linked). valid c (k .waits) (listOf (k .sought .path)) ≡ false → quiet (k .waits) ≡ validate c w p) (sym e) (again false)
 
 -- the code's record of a step, judged, is the step judged
-judged-told : (c : List ℕ) (s : Step) (k : Linked) → k ≡ told s → judgedOf c (k .waits) (foundIn (k .sought)) ≡ judged c s
-judged-told c s k e = ap (λ (k : Linked). judgedOf c (k .waits) (foundIn (k .sought))) e ∙ ap (judgedOf c (s .waits)) (found-in (s .found))
-
-sieved-told : (c : List ℕ) (s : Step) (k : Linked) → k ≡ told s → sievedOf c (k .waits) (foundIn (k .sought)) ≡ sieved c s
-sieved-told c s k e = ap (λ (k : Linked). sievedOf c (k .waits) (foundIn (k .sought))) e ∙ ap (sievedOf c (s .waits)) (found-in (s .found))
+pub found-told : (F : Waits → Option (List ℕ) → Said) (s : Step) (k : Linked) → k ≡ told s → F (k .waits) (foundIn (k .sought)) ≡ F (s .waits) (s .found)
+found-told F s k e = ap (λ (k : Linked). F (k .waits) (foundIn (k .sought))) e ∙ ap (F (s .waits)) (found-in (s .found))
 
 pub settle-told : (c : List ℕ) (w : Waits) (l : ℕ) (k : Linked) → k ≡ told (refresh c w l) → judgedOf c (k .waits) (foundIn (k .sought)) ≡ settle c w l
 unfolding settle
-settle-told c w l k e = judged-told c (refresh c w l) k e
+settle-told c w l k e = found-told (judgedOf c) (refresh c w l) k e
 
-pub block-told : (c : List ℕ) (w : Waits) (t : ℕ) (i : WaitIntent) (k : Linked) → k ≡ told (register c w t i) → judgedOf c (k .waits) (foundIn (k .sought)) ≡ block c w t i
-unfolding block
-block-told c w t i k e = judged-told c (register c w t i) k e
+-- the one attempt of the code is each mode's rule
+sieved-mutex : (c : List ℕ) (w : Waits) (o : Option (List ℕ)) → sievedFor Mutex c w o ≡ sievedOf c w o
+sieved-mutex c w none = refl
+sieved-mutex c w (some p) = refl
 
-pub mutex-told : (c : List ℕ) (w : Waits) (t l : ℕ) (k : Linked) → k ≡ told (register c w t (mutexOn l)) → sievedOf c (k .waits) (foundIn (k .sought)) ≡ blockMutex c w t l
-unfolding blockMutex
-mutex-told c w t l k e = sieved-told c (register c w t (mutexOn l)) k e
+judged-read : (c : List ℕ) (w : Waits) (o : Option (List ℕ)) → sievedFor RwRead c w o ≡ judgedOf c w o
+judged-read c w none = refl
+judged-read c w (some p) = refl
+
+judged-write : (c : List ℕ) (w : Waits) (o : Option (List ℕ)) → sievedFor RwWrite c w o ≡ judgedOf c w o
+judged-write c w none = refl
+judged-write c w (some p) = refl
+
+module _ (c : List ℕ) (w : Waits) (t l : ℕ) where
+  pub attempt-mutex : attemptFor c w t (mutexOn l) ≡ blockMutex c w t l
+  unfolding blockMutex
+  attempt-mutex = let s = register c w t (mutexOn l) in sieved-mutex c (s .waits) (s .found)
+
+  pub attempt-read : attemptFor c w t (readOn l) ≡ block c w t (readOn l)
+  unfolding block
+  attempt-read = let s = register c w t (readOn l) in judged-read c (s .waits) (s .found)
+
+  pub attempt-write : attemptFor c w t (writeOn l) ≡ blockWrite c w t l
+  unfolding blockWrite block
+  attempt-write = let s = register c w t (writeOn l) in ap (cond (free c w l) (quiet w)) (judged-write c (s .waits) (s .found))
 
 -- ---- nobody waits: nothing to refresh, nothing to tell
 

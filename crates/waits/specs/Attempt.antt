@@ -1,15 +1,17 @@
 -- What the events that may report are made of.
 use mathlib.Core.List.{List}
-use mathlib.Core.Bool.{cond}
+use mathlib.Core.Bool.{Bool, false, cond}
 use mathlib.Core.Option.{Option, none, some}
 use Prim.Native.Nat.{ℕ}
+use lib.Dec.{eqb}
+use Rattle.waits.specs.Tables.{writerOf}
 use Rattle.waits.specs.Waiting.{Step, register, refresh}
-use Rattle.waits.specs.Filter.{passes}
+use Rattle.waits.specs.Filter.{unread, passes}
 use Rattle.waits.specs.Report.{Said, quiet}
 use Rattle.waits.specs.Validate.{validate}
 use Rattle.waits.specs.declared.tables.Waits.{Waits}
 use Rattle.waits.specs.declared.intent.WaitIntent.{WaitIntent}
-use Rattle.waits.specs.declared.intent.WaitMode.the-variants.{Mutex}
+use Rattle.waits.specs.declared.intent.WaitMode.the-variants.{Mutex, RwRead, RwWrite}
 
 -- validate a path
 abbrev pub judgedOf : List ℕ → Waits → Option (List ℕ) → Said
@@ -41,3 +43,17 @@ mutexOn l = record { «lock_id» = l; mode = Mutex }
 
 unfoldable pub blockMutex : List ℕ → Waits → ℕ → ℕ → Said
 blockMutex c w t l = sieved c (register c w t (mutexOn l))
+
+-- register RwRead; validate, no filter
+abbrev pub readOn : ℕ → WaitIntent
+readOn l = record { «lock_id» = l; mode = RwRead }
+
+-- with a reader or writer register RwWrite and validate, no filter; with neither, nothing
+abbrev pub writeOn : ℕ → WaitIntent
+writeOn l = record { «lock_id» = l; mode = RwWrite }
+
+abbrev pub free : List ℕ → Waits → ℕ → Bool
+free c w l = cond (unread c l) (eqb (writerOf w l) 32) false
+
+unfoldable pub blockWrite : List ℕ → Waits → ℕ → ℕ → Said
+blockWrite c w t l = cond (free c w l) (quiet w) (block c w t (writeOn l))

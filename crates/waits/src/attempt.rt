@@ -2,16 +2,18 @@
 ghost use mathlib.Core.Path.{_≡_};
 ghost use Prim.Native.Nat.{_+_, _<_, _≤_};
 ghost use lib.ListN.{length};
-ghost use Rattle.graph.specs.Code.{Fit, foundIn};
+ghost use Rattle.graph.specs.Code.{Fit, foundIn, listOf};
 ghost use Rattle.waits.specs.Tables.{InRange};
-ghost use Rattle.waits.specs.Attempt.{judgedOf, sievedOf, settle, block, blockMutex};
+ghost use Rattle.waits.specs.Attempt.{judgedOf, settle, block, blockMutex, readOn, free, blockWrite};
 ghost use Rattle.waits.specs.Report.{reportBytes};
-ghost use Rattle.waits.specs.Code.{Tells};
+ghost use Rattle.waits.specs.Code.{freeFor, passesFor, sievedFor, attemptFor, Tells};
 use crate::intent::WaitIntent;
 use crate::intent::WaitMode;
 use crate::tables::Told;
 use crate::tables::Waits;
+use crate::wait::reader_mask;
 use graph::Answer;
+use graph::Path;
 use graph::Sought;
 
 impl Waits {
@@ -39,17 +41,63 @@ impl Waits {
         self.validated_deadlock_info(counts, cycle, buf, from)
     }
 
-    // A path found must pass the filter, and is then validated.
-    fn sieved(self, counts: &[u8; 2048], s: Sought, buf: &mut [u8], from: usize) -> Told
+    // Has l neither reader nor writer?
+    fn is_free(self, counts: &[u8; 2048], l: usize) -> bool
+        requires { ⌜ l < 64 ⌝ }
+        ensures { λ r. ⌜ r ≡ free (now (counts .entry)) self l ⌝ }
+    {
+        if reader_mask(counts, l) == 0 {
+            let writers = self.rwlock_writer;
+            return writers[l] == 32;
+        }
+        false
+    }
+
+    // A free lock blocks no writer.
+    fn is_free_for(self, counts: &[u8; 2048], i: WaitIntent) -> bool
+        requires { ⌜ i .«lock_id» < 64 ⌝ }
+        ensures { λ r. ⌜ r ≡ freeFor (i .mode) (now (counts .entry)) self (i .«lock_id») ⌝ }
+    {
+        let l = i.lock_id as usize;
+        let mode = i.mode;
+        match mode {
+            WaitMode::Mutex => false,
+            WaitMode::RwRead => false,
+            WaitMode::RwWrite => self.is_free(counts, l),
+        }
+    }
+
+    // A mutex's path must pass the filter.
+    fn passes_for(self, counts: &[u8; 2048], i: WaitIntent, cycle: Path) -> bool
+        requires { ⌜ Fit cycle ⌝ }
+        ensures { λ r. ⌜ r ≡ passesFor (i .mode) (now (counts .entry)) self (listOf cycle) ⌝ }
+    {
+        let mode = i.mode;
+        match mode {
+            WaitMode::Mutex => self.filter_cycle_by_common_locks(counts, cycle),
+            WaitMode::RwRead => true,
+            WaitMode::RwWrite => true,
+        }
+    }
+
+    // A path found that passes is validated.
+    fn sieved(
+        self,
+        counts: &[u8; 2048],
+        i: WaitIntent,
+        s: Sought,
+        buf: &mut [u8],
+        from: usize,
+    ) -> Told
         requires { ⌜ InRange self × Fit (s .path) × (from + reportBytes ≤ length (now buf)) ⌝ }
-        ensures { λ r. ⌜ Tells r (now (buf .entry)) (now (buf .exit)) from (sievedOf (now (counts .entry)) self (foundIn s)) ⌝ }
+        ensures { λ r. ⌜ Tells r (now (buf .entry)) (now (buf .exit)) from (sievedFor (i .mode) (now (counts .entry)) self (foundIn s)) ⌝ }
     {
         let answer = s.answer;
         let cycle = s.path;
         let Answer::Found = answer else {
             return self.quiet(from);
         };
-        if self.filter_cycle_by_common_locks(counts, cycle) {
+        if self.passes_for(counts, i, cycle) {
             return self.validated_deadlock_info(counts, cycle, buf, from);
         }
         self.quiet(from)
@@ -66,8 +114,8 @@ impl Waits {
         w.judged(counts, s, buf, from)
     }
 
-    // Register, validate a path, no filter.
-    pub fn block(
+    // Register, judge the path. One function for all modes, so that the tables are handed on once.
+    fn attempt(
         self,
         counts: &[u8; 2048],
         t: usize,
@@ -76,12 +124,15 @@ impl Waits {
         from: usize,
     ) -> Told
         requires { ⌜ InRange self × (t < 32) × (i .«lock_id» < 64) × (from + reportBytes ≤ length (now buf)) ⌝ }
-        ensures { λ r. ⌜ Tells r (now (buf .entry)) (now (buf .exit)) from (block (now (counts .entry)) self t i) ⌝ }
+        ensures { λ r. ⌜ Tells r (now (buf .entry)) (now (buf .exit)) from (attemptFor (now (counts .entry)) self t i) ⌝ }
     {
+        if self.is_free_for(counts, i) {
+            return self.quiet(from);
+        }
         let k = self.register_wait(counts, t, i);
         let w = k.waits;
         let s = k.sought;
-        w.judged(counts, s, buf, from)
+        w.sieved(counts, i, s, buf, from)
     }
 
     // Register Mutex; a path must pass the filter, then validate.
@@ -100,9 +151,44 @@ impl Waits {
             lock_id: l as u8,
             mode: WaitMode::Mutex,
         };
-        let k = self.register_wait(counts, t, i);
-        let w = k.waits;
-        let s = k.sought;
-        w.sieved(counts, s, buf, from)
+        self.attempt(counts, t, i, buf, from)
+    }
+
+    // Register RwRead; validate, no filter.
+    pub fn block_read(
+        self,
+        counts: &[u8; 2048],
+        t: usize,
+        l: usize,
+        buf: &mut [u8],
+        from: usize,
+    ) -> Told
+        requires { ⌜ InRange self × (t < 32) × (l < 64) × (from + reportBytes ≤ length (now buf)) ⌝ }
+        ensures { λ r. ⌜ Tells r (now (buf .entry)) (now (buf .exit)) from (block (now (counts .entry)) self t (readOn l)) ⌝ }
+    {
+        let i = WaitIntent {
+            lock_id: l as u8,
+            mode: WaitMode::RwRead,
+        };
+        self.attempt(counts, t, i, buf, from)
+    }
+
+    // Register RwWrite where the lock is not free; validate, no filter.
+    pub fn block_write(
+        self,
+        counts: &[u8; 2048],
+        t: usize,
+        l: usize,
+        buf: &mut [u8],
+        from: usize,
+    ) -> Told
+        requires { ⌜ InRange self × (t < 32) × (l < 64) × (from + reportBytes ≤ length (now buf)) ⌝ }
+        ensures { λ r. ⌜ Tells r (now (buf .entry)) (now (buf .exit)) from (blockWrite (now (counts .entry)) self t l) ⌝ }
+    {
+        let i = WaitIntent {
+            lock_id: l as u8,
+            mode: WaitMode::RwWrite,
+        };
+        self.attempt(counts, t, i, buf, from)
     }
 }

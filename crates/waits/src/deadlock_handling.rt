@@ -72,7 +72,7 @@ impl Waits {
             let l = slot.lock();
             buf[at] = t;
             buf[at + 1] = l;
-            at += 2;
+            at += Waits::ENTRY;
             i += 1;
         }
         at

@@ -56,6 +56,7 @@ fn with_awaited(m: u64, s: Slot) -> u64
     locks::with(m, l)
 }
 
+// A table that is read at one place is copied to a local first: then the compiler copies that table and not all of them.
 impl Waits {
     // Takes t out of its intent and its lock's waiters.
     fn forget_intent(mut self, t: usize) -> Waits
@@ -117,18 +118,20 @@ impl Waits {
     {
         let l = i.lock_id as usize;
         let mode = i.mode;
+        let owners = self.mutex_owners;
+        let writers = self.rwlock_writer;
         match mode {
             WaitMode::Mutex => Owners {
                 readers: 0,
-                last: self.mutex_owners[l] as usize,
+                last: owners[l] as usize,
             },
             WaitMode::RwRead => Owners {
                 readers: 0,
-                last: self.rwlock_writer[l] as usize,
+                last: writers[l] as usize,
             },
             WaitMode::RwWrite => {
                 let readers = reader_mask(counts, l);
-                let last = self.rwlock_writer[l] as usize;
+                let last = writers[l] as usize;
                 if last == 32 {
                     return Owners { readers, last };
                 }
@@ -159,7 +162,8 @@ impl Waits {
         requires { ⌜ (t < 32) × InRange self ⌝ }
         ensures { λ r. ⌜ r ≡ renewC (now (counts .entry)) self a t ⌝ }
     {
-        let slot = self.thread_waits_for[t];
+        let slots = self.thread_waits_for;
+        let slot = slots[t];
         let awaits = slot.awaits;
         let Awaits::For(i) = awaits else {
             return a;

@@ -1,9 +1,9 @@
-use Rattle.waits.specs.Attempt.{block}
+use Rattle.waits.specs.Attempt.{block, readOn}
 use Rattle.detector.specs.Code.{triedRead}
 use Rattle.detector.proofs.Promises.{redo, does-told, does-counts, read-blocked, read-took, read-count, not-full}
 use Rattle.detector.specs.State.{tables}
 use Rattle.detector.specs.Tables.{withCounts, silent}
-use Rattle.detector.specs.RwLock.{acquireRead, readOn, countUp}
+use Rattle.detector.specs.RwLock.{acquireRead, countUp}
 use borrow.Author.Needs.{needs}
 use mathlib.Core.Path.{sym, ap, ap₂, _∙_}
 use Rattle.detector.proofs.state.Detector.acquire_read_slow_with_recheck.Statement.{
@@ -20,11 +20,8 @@ readers-requires c κs = search needs
 was-blocked-requires : tie.Need-was-blocked-requires
 was-blocked-requires c κs = search needs
 
-cast-t14 : tie.Need-cast-t14
-cast-t14 c = search needs
-
-block-requires : tie.Need-block-requires
-block-requires c κs = search needs
+block-read-requires : tie.Need-block-read-requires
+block-read-requires c κs = search needs
 
 told-requires : tie.Need-told-requires
 told-requires c κs = search needs
@@ -37,11 +34,11 @@ unfolding acquireRead
 returns c =
     let s = c .before .before .before .before .before .before .before .before .before .before .before .before in
     let a = s .args in
-    let b = c .before .before .before .block .ensures in
+    let b = c .before .before .before .block-read .ensures in
     let i = c .before .before .before .before .before .before in
     let w = i .before .before .before .read-tried .ensures .0 in
     redo (read-blocked (tables (a .self)) (a .t) (a .l) (a .o) (sym (i .before .was-blocked .ensures) ∙ i .if1 .taken))
-    (does-told (a .self) _ _ _ _ (block (a .self .rest .«rwlock_readers») (triedRead (a .self .waits) (a .t) (a .l) (a .o)) (a .t) (readOn (a .l)))
+    (does-told (a .self) _ _ _ _ (block (a .self .«rwlock_readers») (triedRead (a .self .waits) (a .t) (a .l) (a .o)) (a .t) (readOn (a .l)))
     (c .told .ensures) (s .pre .0) (rw (i .before .before .readers .ensures, w) at b))
 
 counted-up-requires : tie.Need-counted-up-requires
@@ -75,8 +72,7 @@ acquire-read-slow-with-recheck-spec =
     read-tried-requires
     readers-requires
     was-blocked-requires
-    cast-t14
-    block-requires
+    block-read-requires
     told-requires
     same-length
     returns

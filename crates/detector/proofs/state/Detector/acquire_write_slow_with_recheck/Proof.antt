@@ -14,7 +14,7 @@ use Rattle.detector.proofs.state.Detector.acquire_write_slow_with_reche
 -- where the arms meet: no look was needed, or it has told
 met : (c : tie.Joined1)
     → Tells (c .if1 .d) (c .before .before .before .before .before .before .args .buf .now) (c .if1 .buf) 0
-    (lookedWrite (c .before .before .before .before .before .before .args .self .rest .«rwlock_readers»)
+    (lookedWrite (c .before .before .before .before .before .before .args .self .«rwlock_readers»)
     (triedWrite (c .before .before .before .before .before .before .args .self .waits) (c .before .before .before .before .before .before .args .t) (c .before .before .before .before .before .before .args .l) (c .before .before .before .before .before .before .args .o))
     (c .before .before .before .before .before .before .args .t) (c .before .before .before .before .before .before .args .l) (c .before .before .before .before .before .before .args .o))
 met c =

@@ -12,7 +12,7 @@ use Rattle.detector.proofs.state.Detector.complete_write.Tie as tie
 -- where the arms meet: nobody waits, or the look has told
 met : (c : tie.Joined1)
     → Tells (c .if1 .d) (c .before .before .before .before .before .before .args .buf .now) (c .if1 .buf) 0
-    (settle (c .before .before .before .before .before .before .args .self .rest .«rwlock_readers»)
+    (settle (c .before .before .before .before .before .before .args .self .«rwlock_readers»)
     (written (c .before .before .before .before .before .before .args .self .waits) (c .before .before .before .before .before .before .args .t) (c .before .before .before .before .before .before .args .l))
     (c .before .before .before .before .before .before .args .l))
 met c =

@@ -9,8 +9,8 @@ mul-at c = search needs
 add-at : tie.Need-add-at
 add-at c = search needs
 
-element-copy-out-if1 : tie.Need-element-copy-out-if1
-element-copy-out-if1 c = search needs
+array-read-if1 : tie.Need-array-read-if1
+array-read-if1 c = search needs
 
 returns : tie.Need-returns
 returns c = rw (eq-eqb _ 255 (c .if1 .taken))
@@ -19,4 +19,4 @@ returns-2 : tie.Need-returns-2
 returns-2 c = rw (ne-eqb _ 255 (c .if1 .left))
 
 pub full-count-spec : {M : Type 1} → statement M
-full-count-spec = tie.close (tie.spec mul-at add-at element-copy-out-if1 returns returns-2)
+full-count-spec = tie.close (tie.spec mul-at add-at array-read-if1 returns returns-2)

@@ -14,8 +14,8 @@ element-copy-out-q c = search needs
 empty-queue-requires : tie.Need-empty-queue-requires
 empty-queue-requires c κs = search needs
 
-mul-t12 : tie.Need-mul-t12
-mul-t12 c = search needs
+mul-t11 : tie.Need-mul-t11
+mul-t11 c = search needs
 
 element-set-from-rest : tie.Need-element-set-from-rest
 element-set-from-rest c = search needs
@@ -43,7 +43,7 @@ notify-all-spec =
     mul-q
     element-copy-out-q
     empty-queue-requires
-    mul-t12
+    mul-t11
     element-set-from-rest
     wake-all-requires
     same-length

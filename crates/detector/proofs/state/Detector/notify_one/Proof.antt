@@ -19,8 +19,8 @@ element-copy-out-p c = search needs
 popped-requires : tie.Need-popped-requires
 popped-requires c κs = let p = c .before .before .before .before .before .before .pre in (p .0 .queues _ (p .1), omega (arith, c .before .if1 .left))
 
-mul-t14 : tie.Need-mul-t14
-mul-t14 c = search needs
+mul-t13 : tie.Need-mul-t13
+mul-t13 c = search needs
 
 element-set-from-rest : tie.Need-element-set-from-rest
 element-set-from-rest c = search needs
@@ -51,7 +51,7 @@ notify-one-spec =
     returns
     element-copy-out-p
     popped-requires
-    mul-t14
+    mul-t13
     element-set-from-rest
     wake-one-requires
     same-length

@@ -14,7 +14,7 @@ use Rattle.detector.proofs.state.Detector.release_mutex.Tie as tie
 -- where the arms meet: nobody waits, or the waiters were refreshed
 met : (c : tie.Joined1)
     → (c .if1 .w
-    ≡ refresh (c .before .before .before .before .args .self .rest .«rwlock_readers»)
+    ≡ refresh (c .before .before .before .before .args .self .«rwlock_readers»)
     (released (c .before .before .before .before .args .self .waits) (c .before .before .before .before .args .t) (c .before .before .before .before .args .l))
     (c .before .before .before .before .args .l)
     .waits)

@@ -19,17 +19,17 @@ use Rattle.detector.proofs.state.Detector.release_read.Tie as tie
 -- the count after it fell
 fallen : (c : tie.Joined1)
     → getD (c .before .before .counted-down .result) (c .before .before .before .before .args .l * 32 + c .before .before .before .before .args .t) 0
-    ≡ countOf (c .before .before .before .before .args .self .rest .«rwlock_readers») (c .before .before .before .before .args .l) (c .before .before .before .before .args .t) - 1
+    ≡ countOf (c .before .before .before .before .args .self .«rwlock_readers») (c .before .before .before .before .args .l) (c .before .before .before .before .args .t) - 1
 fallen c =
     let a = c .before .before .before .before .args in
-    let n : length (a .self .rest .«rwlock_readers») ≡ 2048 = search needs in
+    let n : length (a .self .«rwlock_readers») ≡ 2048 = search needs in
     let e = c .before .before .counted-down .ensures ∙ ap (λ k. countDown k (a .l) (a .t)) (c .before .before .before .readers .ensures) in
-    ap (λ k. countOf k (a .l) (a .t)) e ∙ count-down-at (a .self .rest .«rwlock_readers») (a .l) (a .t) (omega (arith, c .before .before .before .before .pre .1, c .before .before .before .before .pre .2))
+    ap (λ k. countOf k (a .l) (a .t)) e ∙ count-down-at (a .self .«rwlock_readers») (a .l) (a .t) (omega (arith, c .before .before .before .before .pre .1, c .before .before .before .before .pre .2))
 
 -- where the arms meet: the edges go where the count is 0 now
 met : (c : tie.Joined1)
     → c .if1 .w
-    ≡ cond (eqb (countOf (c .before .before .before .before .args .self .rest .«rwlock_readers») (c .before .before .before .before .args .l) (c .before .before .before .before .args .t) - 1) 0)
+    ≡ cond (eqb (countOf (c .before .before .before .before .args .self .«rwlock_readers») (c .before .before .before .before .args .l) (c .before .before .before .before .args .t) - 1) 0)
     (loosen (c .before .before .before .before .args .self .waits) (c .before .before .before .before .args .t) (c .before .before .before .before .args .l))
     (c .before .before .before .before .args .self .waits)
 met c =

@@ -7,8 +7,8 @@ use Rattle.waits.proofs.tables.Waits.renew.Tie as tie
 mul-slot : tie.Need-mul-slot
 mul-slot c = search needs
 
-element-copy-out-slot : tie.Need-element-copy-out-slot
-element-copy-out-slot c = search needs
+array-copy-out-slot : tie.Need-array-copy-out-slot
+array-copy-out-slot c = search needs
 
 enum-known-awaits : tie.Need-enum-known-awaits
 enum-known-awaits c = search needs
@@ -22,7 +22,7 @@ returns c = rw (c .enum-told .given .1)
 
 incompatible-owners-requires : tie.Need-incompatible-owners-requires
 incompatible-owners-requires c κs =
-    let s = c .before .before .before .before in
+    let s = c .before .before .before .before .before in
     (s .pre .1, lock-of _ _ _ (s .pre .1) (c .before .awaits .given .1))
 
 relink-requires : tie.Need-relink-requires
@@ -43,7 +43,7 @@ renew-spec =
     tie.close
     (tie.spec
     mul-slot
-    element-copy-out-slot
+    array-copy-out-slot
     enum-known-awaits
     enum-told
     returns

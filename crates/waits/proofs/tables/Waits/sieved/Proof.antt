@@ -16,8 +16,8 @@ quiet-requires c κs = search needs
 returns : tie.Need-returns
 returns c = rw (c .before .enum-told2 .given .1) (hush-tells _ _ _ _ (c .quiet .ensures) (c .before .before .before .before .before .pre .0))
 
-filter-cycle-by-common-locks-requires : tie.Need-filter-cycle-by-common-locks-requires
-filter-cycle-by-common-locks-requires c κs = search needs
+passes-for-requires : tie.Need-passes-for-requires
+passes-for-requires c κs = search needs
 
 validated-deadlock-info-requires : tie.Need-validated-deadlock-info-requires
 validated-deadlock-info-requires c κs = search needs
@@ -28,7 +28,7 @@ same-length c = search needs
 returns-2 : tie.Need-returns-2
 returns-2 c =
     let f = c .before .before .before .before .before in
-    rw (f .before .enum-told .given .1, sym (f .filter-cycle-by-common-locks .ensures) ∙ c .before .before .before .before .if1 .taken)
+    rw (f .before .enum-told .given .1, sym (f .passes-for .ensures) ∙ c .before .before .before .before .if1 .taken)
     (c .before .before .validated-deadlock-info .ensures)
 
 quiet-requires-2 : tie.Need-quiet-requires-2
@@ -37,7 +37,7 @@ quiet-requires-2 c κs = search needs
 returns-3 : tie.Need-returns-3
 returns-3 c =
     let f = c .before .before in
-    rw (f .before .enum-told .given .1, sym (f .filter-cycle-by-common-locks .ensures) ∙ c .before .if1 .left)
+    rw (f .before .enum-told .given .1, sym (f .passes-for .ensures) ∙ c .before .if1 .left)
     (hush-tells _ _ _ _ (c .quiet2 .ensures) (f .before .before .before .before .before .pre .0))
 
 pub sieved-spec : {M : Type 1} → statement M
@@ -48,7 +48,7 @@ sieved-spec =
     enum-told-2
     quiet-requires
     returns
-    filter-cycle-by-common-locks-requires
+    passes-for-requires
     validated-deadlock-info-requires
     same-length
     returns-2

@@ -1,6 +1,6 @@
 use Rattle.waits.proofs.Telling.{entry-step, entry-end, report-head}
 use Rattle.waits.specs.Code.{laid}
-use Rattle.waits.specs.Report.{entries}
+use Rattle.waits.specs.Report.{entryBytes, entries}
 use Rattle.graph.specs.Code.{listOf}
 use borrow.Author.Needs.{needs}
 use mathlib.Core.Path.{_≡_, refl, _∙_}
@@ -13,7 +13,7 @@ use Rattle.waits.proofs.tables.Waits.write_report.Tie as tie
 abbrev Inv-loop : tie.InvT-loop
 Inv-loop buf₀ from self cycle n at₀ i₀ buf at i =
     (i ≤ n)
-    × (at ≡ from + 1 + 2 * i)
+    × (at ≡ from + 1 + entryBytes * i)
     × (length buf ≡ length buf₀)
     × (laid buf at (entries self (drop i (listOf cycle))) ≡ laid buf₀ (from + 1) (entries self (listOf cycle)))
 
