@@ -30,7 +30,7 @@ use Rattle.waits.specs.Waiting.{unwaited, clear, setIntent, register}
 use Rattle.waits.specs.Filter.{nothing, allHold, unread, commonLocks, passes}
 use Rattle.waits.specs.Report.{Said, quiet, saying}
 use Rattle.waits.specs.Validate.{around, valid, names, validate}
-use Rattle.waits.specs.Attempt.{judgedOf, sievedOf, block, blockMutex, mutexOn}
+use Rattle.waits.specs.Attempt.{judgedOf, sievedOf, block, blockMutex, mutexOn, readOn, writeOn, free, blockWrite}
 use Rattle.waits.specs.declared.tables.Waits.{Waits}
 use Rattle.waits.specs.declared.intent.Slot.{Slot}
 use Rattle.waits.specs.declared.intent.WaitIntent.{WaitIntent}

@@ -13,7 +13,7 @@ use Rattle.waits.specs.Waiting.{clear, setIntent, register, renew, renewAll, re
 use Rattle.waits.specs.Owners.{readers, waitsFor}
 use Rattle.waits.specs.Filter.{allHold, commonLocks}
 use Rattle.waits.specs.Validate.{around, valid, awaitedBy, awaitedLocks, checked, validate}
-use Rattle.waits.specs.Attempt.{settle, block, blockMutex}
+use Rattle.waits.specs.Attempt.{settle, block, blockMutex, blockWrite}
 use Rattle.waits.specs.Report.{entries, bytesOf, written}
 use Rattle.graph.specs.Graph.{cutAll, stored, closing, addEdge, addNext, addOwners, removeEdge, removeEdgesTo, clearWaitEdges}
 use Rattle.graph.specs.Search.{visit, expand, wayBack, search, findPath}

@@ -64,7 +64,7 @@ fn tried(w: Waits, t: usize, l: usize, o: Outcome) -> Waits
 }
 
 // A lock that was taken and that nobody awaits needs no look.
-pub fn must_look(w: Waits, l: usize, o: Outcome) -> bool
+pub(crate) fn must_look(w: Waits, l: usize, o: Outcome) -> bool
     requires { ⌜ l < 64 ⌝ }
     ensures { λ r. ⌜ r ≡ mustLook w l o ⌝ }
 {
@@ -116,7 +116,7 @@ fn cleared(w0: Waits, l: usize) -> Waits
 }
 
 // l leaves all holds and loses its waiters.
-pub fn purged(w0: Waits, l: usize) -> Waits
+pub(crate) fn purged(w0: Waits, l: usize) -> Waits
     requires { ⌜ InRange w0 × (l < 64) ⌝ }
     ensures { λ r. ⌜ (r ≡ purge w0 l) × InRange r ⌝ }
 {

@@ -21,19 +21,19 @@ fn hint_of(o: Outcome) -> usize
 fn outside(t: usize, h: usize, l: usize, c: usize, room: usize) -> u8
     ensures { λ r. ⌜ r ≡ outside (numbers t h l c) room 0 ⌝ }
 {
-    if 31 < t {
+    if t >= Detector::THREADS {
         return 3;
     }
-    if 31 < h {
+    if h >= Detector::THREADS {
         return 3;
     }
-    if 63 < l {
+    if l >= Detector::LOCKS {
         return 4;
     }
-    if 15 < c {
+    if c >= Detector::CONDVARS {
         return 5;
     }
-    if room < 2080 {
+    if room < Detector::REPORT_BYTES {
         return 6;
     }
     0

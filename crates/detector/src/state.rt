@@ -70,7 +70,7 @@ impl Detector {
     }
 
     // The state with other waits.
-    pub fn with_waits(self, waits: Waits, reports: usize) -> Done
+    pub(crate) fn with_waits(self, waits: Waits, reports: usize) -> Done
         ensures { λ r. ⌜ r ≡ putWaits self waits reports ⌝ }
     {
         let cv_woken = self.cv_woken;
@@ -85,21 +85,21 @@ impl Detector {
         Done { detector, reports }
     }
 
-    pub fn told(self, d: Told) -> Done
+    pub(crate) fn told(self, d: Told) -> Done
         ensures { λ r. ⌜ r ≡ putWaits self (d .waits) (d .reports) ⌝ }
     {
         let w = d.waits;
         self.with_waits(w, d.reports)
     }
 
-    pub fn readers(self) -> [u8; 2048]
+    pub(crate) fn readers(self) -> [u8; 2048]
         ensures { λ r. ⌜ r ≡ self .«rwlock_readers» ⌝ }
     {
         self.rwlock_readers
     }
 
     // The state with other waits and other counts.
-    pub fn with_counts(self, waits: Waits, rwlock_readers: [u8; 2048]) -> Done
+    pub(crate) fn with_counts(self, waits: Waits, rwlock_readers: [u8; 2048]) -> Done
         ensures { λ r. ⌜ r ≡ putCounts self waits «rwlock_readers» ⌝ }
     {
         let cv_woken = self.cv_woken;
