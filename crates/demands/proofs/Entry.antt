@@ -71,7 +71,8 @@ stateOf x =
     record {
       waits = x .waits;
       «cv_woken» = x .«cv_woken»;
-      rest = record { «rwlock_readers» = x .«rwlock_readers»; «cv_waiters» = map placed (x .«cv_waiters»); «thread_wait_cv» = x .«thread_wait_cv» };
+      «rwlock_readers» = x .«rwlock_readers»;
+      rest = record { «cv_waiters» = map placed (x .«cv_waiters»); «thread_wait_cv» = x .«thread_wait_cv» };
     }
 
 means : (x : Tables) → tables (stateOf x) ≡ x

@@ -10,13 +10,13 @@ use lib.ListN.{length, length-append, take}
 use borrow.Author.Tests.{eqb-true, ne-eqb}
 use Rattle.waits.specs.Tables.{ownerOf}
 use Rattle.waits.specs.Report.{Report, Said, quiet, bytesOf}
-use Rattle.waits.specs.Attempt.{block, blockMutex}
+use Rattle.waits.specs.Attempt.{block, blockMutex, readOn, writeOn, free, blockWrite}
 use Rattle.waits.specs.declared.tables.Waits.{Waits}
 use Rattle.waits.specs.declared.outcome.Outcome.the-variants.{Took, Blocked, Hinted}
 use Rattle.waits.specs.declared.outcome.Tried.the-variants.{Taken, Missed}
 use Rattle.detector.specs.Tables.{Tables, Answer, queueOf, withWaits, silent, said}
 use Rattle.detector.specs.Mutex.{completeAcquire, acquireSlow, releaseMutex, destroyMutex}
-use Rattle.detector.specs.RwLock.{completeRead, acquireRead, readOn, tryRead, releaseRead, completeWrite, writeOn, free, blockWrite, acquireWrite, releaseWrite, destroyRwLock}
+use Rattle.detector.specs.RwLock.{completeRead, acquireRead, tryRead, releaseRead, completeWrite, acquireWrite, releaseWrite, destroyRwLock}
 use Rattle.detector.specs.Condvar.{createCondvar, destroyCondvar, beginWait, Woken, attempted, wake, wakeAll, notifyFirst, notifyOne, notifyAll, endWait}
 use Rattle.detector.specs.Events.{apply}
 use Rattle.detector.specs.Refusals.{Inside, numbersOf, full, refusal}

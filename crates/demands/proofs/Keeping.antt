@@ -17,7 +17,7 @@ use Rattle.waits.specs.Waiting.{Step, clear, register, refresh, refreshNext, re
 use Rattle.waits.specs.Filter.{passes}
 use Rattle.waits.specs.Report.{quiet, saying}
 use Rattle.waits.specs.Validate.{names, valid, awaitedLocks, checked, validate}
-use Rattle.waits.specs.Attempt.{judgedOf, judged, sievedOf, sieved, settle, block, blockMutex, mutexOn}
+use Rattle.waits.specs.Attempt.{judgedOf, judged, sievedOf, sieved, settle, block, blockMutex, mutexOn, readOn, writeOn, free, blockWrite}
 use Rattle.waits.specs.declared.tables.Waits.{Waits}
 use Rattle.waits.specs.declared.intent.WaitIntent.{WaitIntent}
 use Rattle.waits.specs.declared.outcome.Outcome.the-variants.{Took, Blocked, Hinted}
@@ -25,7 +25,7 @@ use Rattle.waits.specs.declared.outcome.Tried.the-variants.{Taken, Missed}
 use Rattle.detector.specs.Tables.{Tables, noWait, blankWait, queueOf, withWaits, withCounts, withQueue, withWoken, silent}
 use Rattle.detector.specs.Mutex.{acquired, completeAcquire, acquireSlow, released, releaseMutex, clearNaming, unholdAll, purge, destroyMutex}
 use Rattle.detector.specs.RwLock as rwlock
-use Rattle.detector.specs.RwLock.{countUp, countDown, completeRead, acquireRead, readOn, tryRead, loosen, releaseRead, completeWrite, writeOn, free, blockWrite, acquireWrite, unwritten, releaseWrite, noReaders, setCount, destroyRwLock}
+use Rattle.detector.specs.RwLock.{countUp, countDown, completeRead, acquireRead, tryRead, loosen, releaseRead, completeWrite, acquireWrite, unwritten, releaseWrite, noReaders, setCount, destroyRwLock}
 use Rattle.detector.specs.Condvar.{condvarAt, createCondvar, forget, destroyCondvar, beginWait, Woken, attempted, wake, wakeAll, notifyFirst, notifyOne, notifyAll, isPair, leave, endWait}
 use Rattle.detector.specs.Events.{apply}
 use Rattle.detector.specs.Refusals.{Inside, numbersOf, fullCount, full, refusal}

@@ -37,7 +37,7 @@ pub record Typed (d : Detector) : Type 0 where
   pub owners : Table (d .waits .«mutex_owners») 64 256
   pub writers : Table (d .waits .«rwlock_writer») 64 256
   pub woken : d .«cv_woken» < 2 ^ 32
-  pub readers : Table (d .rest .«rwlock_readers») 2048 256
+  pub readers : Table (d .«rwlock_readers») 2048 256
   pub queues : length (d .rest .«cv_waiters») ≡ 16
   pub places : (c : ℕ) → c < 16 → Places (getD (d .rest .«cv_waiters») c blankQueue)
   pub sleepers : length (d .rest .«thread_wait_cv») ≡ 32

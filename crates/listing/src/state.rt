@@ -81,7 +81,7 @@ fn put_all(d: Detector, out: &mut [u8], at: usize) -> usize
     let w = d.waits;
     let b = put_graph(out, a, w);
     let c = put_mutexes(out, b, w);
-    let counts = rest.rwlock_readers;
+    let counts = d.rwlock_readers;
     let e = put_rwlocks(out, c, w, &counts);
     let waits = rest.thread_wait_cv;
     put_threads(out, e, w, waits)
