@@ -5,9 +5,15 @@ use transcript::begin;
 use transcript::feed;
 use transcript::finish;
 ghost use mathlib.Core.Path.{_≡_};
+ghost use mathlib.Core.Logic.{_⊎_};
 ghost use mathlib.Core.Bool.{true};
-ghost use lib.ListN.{length};
+ghost use mathlib.Core.List.{[], _∷_};
+ghost use Prim.Native.Nat.{_<_};
+ghost use lib.IntN.{pos};
+ghost use lib.ListN.{length, take};
 ghost use lib.Seq.{sets};
+ghost use Rattle.transcript.specs.Lines.{lineFeed};
+ghost use Rattle.transcript.specs.Replay.{limit};
 ghost use Rattle.transcript.specs.Chunks.{fed, ends};
 ghost use Rattle.transcript.specs.Code.{Kept, midOf};
 
@@ -60,13 +66,25 @@ fn take_chunk(run: Run, carry: &mut [u8], chunk: &[u8], out: &mut [u8], buf: &mu
     Held { run: r, open: true }
 }
 
-// The last line where it lacks its line feed, and the sums.
-fn end(run: Run, carry: &mut [u8], out: &mut [u8], buf: &mut [u8]) -> bool
-    requires { ⌜ Kept run (now carry) × (length (now out) ≡ 65536) × (length (now buf) ≡ 2080) ⌝ }
+// The sums, where no line is left to answer.
+fn end(run: Run, carry: &[u8], out: &mut [u8]) -> bool
+    requires { ⌜ Kept run (now carry) × ((run .have ≡ 0) ⊎ (run .lines ≡ limit)) × (length (now out) ≡ 65536) ⌝ }
     ensures { λ _. ⌜ now (out .exit) ≡ sets (now (out .entry)) 0 (ends (midOf run (now (carry .entry)))) ⌝ }
 {
-    let to = finish(run, carry, out, 0, buf);
+    let to = finish(run, carry, out, 0);
     write_out(&out[..to])
+}
+
+// What is read, or, when the input is over, the line feed that the last line lacks.
+fn next_chunk(fd: i32, over: bool, inp: &mut [u8]) -> isize
+    requires { ⌜ 0 < length (now inp) ⌝ }
+    ensures { λ r. ⌜ (over ≡ true → (r ≡ pos 1) × (take 1 (now (inp .exit)) ≡ lineFeed ∷ [])) ⌝ }
+{
+    if over {
+        inp[0] = b'\n';
+        return 1;
+    }
+    libc::read(fd, inp)
 }
 
 // Answers whether more can be written. No contract can say what is read: a count of turns bounds the loop.
@@ -78,22 +96,26 @@ fn run_script(
     out: &mut [u8],
     buf: &mut [u8],
 ) -> bool
-    requires { ⌜ (length (now carry) ≡ 41) × (length (now out) ≡ 65536) × (length (now buf) ≡ 2080) ⌝ }
+    requires { ⌜ (length (now inp) ≡ 65536) × (length (now carry) ≡ 41) × (length (now out) ≡ 65536) × (length (now buf) ≡ 2080) ⌝ }
 {
     let mut r = begin();
+    let mut over = false;
     let mut turns: u64 = 18446744073709551615;
     while turns > 0 {
         if r.lines == LIMIT {
-            return end(r, carry, out, buf);
+            return end(r, carry, out);
         }
-        let got = libc::read(fd, inp);
+        if over && r.have == 0 {
+            return end(r, carry, out);
+        }
+        let got = next_chunk(fd, over, inp);
         if got < 0 {
             refuse(name);
             return true;
         }
         let k = io::count(got, inp);
         if k == 0 {
-            return end(r, carry, out, buf);
+            over = true;
         }
         let t = take_chunk(r, carry, &inp[..k], out, buf);
         if !t.open {
@@ -107,7 +129,7 @@ fn run_script(
 }
 
 fn replay_file(i: usize, inp: &mut [u8], carry: &mut [u8], out: &mut [u8], buf: &mut [u8]) -> bool
-    requires { ⌜ (length (now carry) ≡ 41) × (length (now out) ≡ 65536) × (length (now buf) ≡ 2080) ⌝ }
+    requires { ⌜ (length (now inp) ≡ 65536) × (length (now carry) ≡ 41) × (length (now out) ≡ 65536) × (length (now buf) ≡ 2080) ⌝ }
 {
     let mut path = io::buffer();
     let n = os::arg(i, &mut path);

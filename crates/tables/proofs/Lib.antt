@@ -1,3 +1,2 @@
-pub mod Chunk
 pub mod Lines
 pub mod Text

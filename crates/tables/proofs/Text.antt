@@ -11,7 +11,7 @@ use Rattle.listing.specs.Listing.{tablesText}
 use Rattle.transcript.specs.Lines.{lineFeed, linesOf}
 use Rattle.transcript.specs.Replay.{Run, Result, limit, begun, after, lineText, lastText, resultText}
 use Rattle.transcript.specs.Chunks.{Mid, mid, start, step, fed, lastLine, fedAll, joined}
-use Rattle.transcript.proofs.Text.{fed-append, cut-result, cut-more}
+use Rattle.transcript.proofs.Text.{fed-append, fed-joined, cut-result, cut-more}
 use Rattle.tables.specs.Shown.{lineShown, shownOf, shownText, shown, shows, closes, showsAll, ShownTheorem}
 use Rattle.tables.specs.Code.{feeds}
 use Rattle.tables.proofs.Lines.{feeds-more, shown-full}
@@ -22,11 +22,6 @@ shows-append : (m : Mid) (a b : List ℕ) → shows m (a ++ b) ≡ shows m a ++ 
 unfolding fed shows
 shows-append m [] b = refl
 shows-append m (x ∷ a) b = rw (shows-append (step m x) a b, append-assoc)
-
-fed-joined : (m : Mid) (ts : List (List ℕ)) → fedAll m ts ≡ fed m (joined ts)
-unfolding fedAll fed joined
-fed-joined m [] = refl
-fed-joined m (t ∷ ts) = fed-joined (fed m t) ts ∙ sym (fed-append m t (joined ts))
 
 shows-joined : (m : Mid) (ts : List (List ℕ)) → showsAll m ts ≡ shows m (joined ts)
 unfolding showsAll shows joined

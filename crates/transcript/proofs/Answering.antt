@@ -1,30 +1,25 @@
 -- What an event's promise makes of the answer to its line.
 use mathlib.Core.Path.{_≡_, refl, sym, ap, ap₂, _∙_, subst}
-use mathlib.Core.Bool.{Bool, true, false, cond}
 use mathlib.Core.List.{List, [], _∷_, _++_, map}
 use Prim.Native.Nat.{ℕ, zero, suc, _+_, _<_, _≤_}
 use native.Mathlib.Omega.{arith}
-use lib.Dec.{eqb, ltb}
 use lib.ListN.{length, drop, length-map}
 use lib.Seq.{sets-eq}
 use Rattle.waits.specs.Report.{Report, written, bytesOf, entries}
 use Rattle.waits.specs.Code.{laid}
 use Rattle.waits.specs.declared.tables.Waits.{Waits}
-use Rattle.waits.specs.declared.outcome.Outcome.the-variants.{Took, Blocked, Hinted}
-use Rattle.waits.specs.declared.outcome.Tried.the-variants.{Taken, Missed}
-use Rattle.waits.specs.Owners.{countOf}
-use Rattle.detector.specs.Tables.{Tables, Answer, queueOf}
+use Rattle.detector.specs.Tables.{Answer}
 use Rattle.detector.specs.Events.{apply}
-use Rattle.detector.specs.Refusals.{numbersOf, outside, full, refusal}
+use Rattle.detector.specs.Refusals.{refusal}
 use Rattle.detector.specs.State.{tables, Does, Answers}
 use Rattle.detector.specs.declared.event.Event.{Event}
-use Rattle.detector.specs.declared.event.Event.the-variants.{MutexAttempt, MutexAcquired, MutexReleased, MutexExit, RwReadAttempt, RwReadAcquired, RwReadTry, RwReadReleased, RwWriteAttempt, RwWriteAcquired, RwWriteReleased, RwExit, CondvarSpawn, CondvarExit, CondvarWaitBegin, CondvarNotifyOne, CondvarNotifyAll, CondvarWaitEnd}
 use Rattle.detector.specs.declared.state.Detector.{Detector}
 use Rattle.detector.specs.declared.reply.Answered.{Answered}
 use Rattle.detector.specs.declared.reply.Done.{Done}
 use Rattle.detector.specs.declared.reply.Reply.{Reply}
 use Rattle.detector.specs.declared.reply.Reply.the-variants.{Reports, Refused}
-use Rattle.demands.specs.Reached.{answer, Reached}
+use Rattle.detector.proofs.Numbers.{refusal-known}
+use Rattle.demands.specs.Reached.{answer, room, Reached}
 use Rattle.demands.specs.Invariants.{most}
 use Rattle.demands.proofs.Events.{served}
 use Rattle.demands.proofs.Invariants.{reached-few, reached-room, most-32}
@@ -35,7 +30,7 @@ use Rattle.answers.proofs.Laid.{reports-read, reports-size}
 use Rattle.answers.proofs.Bounds.{Bytes}
 use Rattle.script.specs.declared.line.Line.{Line}
 use Rattle.script.specs.declared.line.Line.the-variants as line
-use Rattle.transcript.specs.Replay.{Result, room, itemOf, itemsOf, refused, eventResult, lineResult}
+use Rattle.transcript.specs.Replay.{Result, itemOf, itemsOf, refused, eventResult, lineResult}
 use Rattle.transcript.specs.Code.{Good, Results}
 
 -- ---- the bytes of reports are those of their items
@@ -63,42 +58,6 @@ read-items b e rs h q =
 size-items : (b e : List ℕ) (rs : List Report) → length (written rs) ≤ length b → e ≡ laid b 0 (written rs) → reportsSize (length rs) e ≡ length (written rs)
 size-items b e rs h q =
     ap₂ reportsSize (sym (length-map rs itemsOf)) (laid-items b e rs h q) ∙ reports-size (map itemsOf rs) (drop (length (written rs)) b) ∙ ap length (sym (written-items rs))
-
--- ---- refusal numbers are small
-
-if-small : (b : Bool) (n m : ℕ) → n < 256 → m < 256 → cond b n m < 256
-if-small true n m p q = p
-if-small false n m p q = q
-
-full-small : (x : Tables) (e : Event) → full x e < 256
-full-small x (RwReadAttempt t l Took) = if-small (eqb (countOf (x .«rwlock_readers») l t) 255) 8 0 (omega arith) (omega arith)
-full-small x (RwReadAttempt t l Blocked) = omega arith
-full-small x (RwReadAttempt t l (Hinted o)) = omega arith
-full-small x (RwReadAcquired t l) = if-small (eqb (countOf (x .«rwlock_readers») l t) 255) 8 0 (omega arith) (omega arith)
-full-small x (RwReadTry t l Taken) = if-small (eqb (countOf (x .«rwlock_readers») l t) 255) 8 0 (omega arith) (omega arith)
-full-small x (RwReadTry t l Missed) = omega arith
-full-small x (CondvarWaitBegin t c l) = if-small (ltb (length (queueOf x c)) 32) 0 7 (omega arith) (omega arith)
-full-small x (MutexAttempt t l o) = omega arith
-full-small x (MutexAcquired t l) = omega arith
-full-small x (MutexReleased t l) = omega arith
-full-small x (MutexExit l) = omega arith
-full-small x (RwReadReleased t l) = omega arith
-full-small x (RwWriteAttempt t l o) = omega arith
-full-small x (RwWriteAcquired t l) = omega arith
-full-small x (RwWriteReleased t l) = omega arith
-full-small x (RwExit l) = omega arith
-full-small x (CondvarSpawn c) = omega arith
-full-small x (CondvarExit c) = omega arith
-full-small x (CondvarNotifyOne c) = omega arith
-full-small x (CondvarNotifyAll c) = omega arith
-full-small x (CondvarWaitEnd t c l) = omega arith
-
-refusal-small : (x : Tables) (n : ℕ) (e : Event) → refusal x n e < 256
-unfolding refusal outside
-refusal-small x n e =
-    let k = numbersOf e in
-    if-small (ltb 31 (k .thread)) 3 _ (omega arith) (if-small (ltb 31 (k .hint)) 3 _ (omega arith) (if-small (ltb 63 (k .lock)) 4 _ (omega arith)
-    (if-small (ltb 15 (k .condvar)) 5 _ (omega arith) (if-small (ltb n 2080) 6 _ (omega arith) (full-small x e)))))
 
 -- ---- a line that does not read, an event that is refused, one that is served
 
@@ -137,7 +96,7 @@ event-results d e r b c g n s =
     go (suc k) q s =
         let p = s .refused (omega arith) in
         subst (λ (z : Answered). Results z c (refused (tables d) (suc k))) (sym (p .0 ∙ ap (λ (m : ℕ). record { detector = d; reply = Refused m }) q))
-        (refused-results d (suc k) c g (omega (arith, refusal-small (tables d) room e)))
+        (refused-results d (suc k) c g (omega (arith, refusal-known (tables d) room e .most)))
 
 -- ---- where the ways of a line meet: what is answered, and a buffer of bytes, as long as before
 
@@ -166,7 +125,7 @@ module _ {d : Detector} {l : Line} {b : List ℕ} (g : Good d) (n : length b ≡
   pub met-refused : {e : Event} {k : ℕ} {c : List ℕ} {s : Detector} {y : Reply} → Bytes b → l ≡ line.Event e → k ≡ refusal (tables d) (length b) e → (k ≡ 0 → ⊥) → c ≡ b → s ≡ d → y ≡ Refused k → Met d l b s y c
   met-refused {e} {k} t h q o c≡ s≡ y≡ =
       let same : refusal (tables d) room e ≡ k = ap (λ (m : ℕ). refusal (tables d) m e) (sym n) ∙ sym q in
-      meet c≡ s≡ y≡ (ap (lineResult (tables d)) h ∙ ap (eventResult (tables d) e) same ∙ go k o) (refused-results d k b g (omega (arith, refusal-small (tables d) room e))) refl t
+      meet c≡ s≡ y≡ (ap (lineResult (tables d)) h ∙ ap (eventResult (tables d) e) same ∙ go k o) (refused-results d k b g (omega (arith, refusal-known (tables d) room e .most))) refl t
     where
       go : (k : ℕ) → (k ≡ 0 → ⊥) → eventResult (tables d) e k ≡ refused (tables d) k
       go zero o = absurd (o refl)

@@ -1,6 +1,7 @@
 -- Turns one after the other, and the text's end.
 use mathlib.Core.Path.{_≡_, refl, sym, ap, ap₂, _∙_, subst}
 use mathlib.Core.Bool.{true}
+use mathlib.Core.Logic.{_⊎_, inl, inr}
 use mathlib.Core.List.{List, [], _∷_, _++_, append-nil}
 use Prim.Native.Nat.{ℕ, _+_, _*_, _-_, _<_, _≤_}
 use native.Mathlib.Omega.{arith}
@@ -9,7 +10,7 @@ use lib.Dec.{ltb}
 use lib.ListN.{length, take, drop, length-take, take-append-drop}
 use lib.Seq.{slice-empty, take-take, drop-append-le, length-take-le}
 use Rattle.answers.specs.Text.{Put}
-use Rattle.answers.specs.Answers.{answerRoom, endRoom, endText}
+use Rattle.answers.specs.Answers.{answerRoom, endText}
 use Rattle.answers.proofs.Puts.{then}
 use native.Mathlib.Decide.{ℕ-discrete}
 use Rattle.detector.specs.Tables.{Tables, empty}
@@ -19,7 +20,7 @@ use Rattle.demands.specs.Reached.{after as reach}
 use Rattle.detector.specs.Stuck.{stuckCount, edgeCount}
 use Rattle.transcript.specs.Lines.{lineFeed}
 use Rattle.transcript.specs.Replay.{Run, limit, lastText, after, textOf}
-use Rattle.transcript.specs.Chunks.{Mid, mid, step, said, fed, says, ends, lastLine}
+use Rattle.transcript.specs.Chunks.{Mid, mid, step, said, fed, says, ends, lastLine, OpenLine}
 use Rattle.transcript.specs.Code.{runOf, midOf, Begins, Kept, between, Turns, Feeds}
 use Rattle.transcript.specs.declared.run.Run as code
 use Rattle.transcript.specs.declared.run.Turned.{Turned}
@@ -113,26 +114,18 @@ pub ends-full : (r : code.Run) (carry : List ℕ) → r .lines ≡ limit → end
 unfolding ends
 ends-full r carry e = text-full (runOf r) (lastLine (take (r .have) carry)) (le-ltb (r .lines) limit (omega arith))
 
-ends-line : (p : List ℕ) (r : Run) → 0 < length p → ltb (r .lines) limit ≡ true → ends (mid p r) ≡ says (mid p r) (lineFeed ∷ []) ++ lastText (fed (mid p r) (lineFeed ∷ []) .run)
-unfolding ends textOf says said fed step
-ends-line [] r h e = absurd (omega arith)
-ends-line (b ∷ p) r h e = rw (e, append-nil)
+-- no line is left to answer
+pub ends-closed : (r : code.Run) (carry : List ℕ) → (r .have ≡ 0) ⊎ (r .lines ≡ limit) → ends (midOf r carry) ≡ lastText (runOf r)
+ends-closed r carry (inl e) = ends-none r carry e
+ends-closed r carry (inr e) = ends-full r carry e
 
--- the last line lacks its line feed
-pub ends-more : (r : code.Run) (carry carry′ out out₁ out₂ : List ℕ) (at k : ℕ) (t : Turned) → Kept r carry → (r .have ≡ 0 → ⊥) → (r .lines ≡ limit → ⊥) → at + answerRoom ≤ length out
-    → Feeds r carry (lineFeed ∷ []) 0 out at t carry′ out₁ → Put out₁ (t .at) (lastText (runOf (t .run))) out₂ k × (k ≤ t .at + endRoom)
-    → Put out at (ends (midOf r carry)) out₂ k × (k ≤ at + answerRoom + endRoom)
-ends-more r carry carry′ out out₁ out₂ at k t g h n w s p =
-    let one : t .next ≡ 1 = omega (arith, feeds-move s (omega arith) (omega (arith, g .lines, n)) w, s .inside) in
-    let cut : between 0 (t .next) (lineFeed ∷ []) ≡ lineFeed ∷ [] = ap (λ (j : ℕ). between 0 j (lineFeed ∷ [])) one in
-    let some : 0 < length (take (r .have) carry) = omega (arith, length-take (r .have) carry, g .long, h) in
-    let free : ltb (r .lines) limit ≡ true = lt-ltb (r .lines) limit (omega (arith, g .lines, n)) in
-    let last : runOf (t .run) ≡ fed (midOf r carry) (lineFeed ∷ []) .run = ap (λ (m : Mid). m .run) (s .after ∙ ap (fed (midOf r carry)) cut) in (
-      subst (λ (z : List ℕ). Put out at z out₂ k)
-          (ap₂ (λ (c : List ℕ) (u : Run). says (midOf r carry) c ++ lastText u) cut last ∙ sym (ends-line (take (r .have) carry) (runOf r) some free))
-          (then (s .text) (p .0)),
-      omega (arith, p .1, s .short),
-    )
+pub open-line : OpenLine
+unfolding ends textOf says said fed step
+open-line m h k = go (m .part) (m .run) h (lt-ltb (m .run .lines) limit k)
+  where
+    go : (p : List ℕ) (r : Run) → (p ≡ [] → ⊥) → ltb (r .lines) limit ≡ true → says (mid p r) (lineFeed ∷ []) ++ ends (fed (mid p r) (lineFeed ∷ [])) ≡ ends (mid p r)
+    go [] r h e = absurd (h refl)
+    go (b ∷ p) r h e = rw (e, append-nil)
 
 -- ---- the start
 

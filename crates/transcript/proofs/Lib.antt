@@ -1,4 +1,5 @@
 pub mod Text
+pub mod Chunk
 pub mod Carry
 pub mod Answering
 pub mod Turning

@@ -27,7 +27,7 @@ unfolding fed says
 says-append m [] b = refl
 says-append m (x ∷ a) b = rw (says-append (step m x) a b, append-assoc)
 
-fed-joined : (m : Mid) (ts : List (List ℕ)) → fedAll m ts ≡ fed m (joined ts)
+pub fed-joined : (m : Mid) (ts : List (List ℕ)) → fedAll m ts ≡ fed m (joined ts)
 unfolding fedAll fed joined
 fed-joined m [] = refl
 fed-joined m (t ∷ ts) = fed-joined (fed m t) ts ∙ sym (fed-append m t (joined ts))

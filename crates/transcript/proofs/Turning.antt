@@ -20,7 +20,8 @@ use Rattle.answers.proofs.Bounds.{Bytes, answer-room, answer-bound}
 use Rattle.answers.specs.Reports.{Entry}
 use Rattle.detector.specs.declared.reply.Reply.{Reply}
 use Rattle.transcript.specs.Lines.{lineFeed}
-use Rattle.transcript.specs.Replay.{Run, Result, room, limit, lineResult, resultOf, resultText, after, lineText}
+use Rattle.demands.specs.Reached.{room}
+use Rattle.transcript.specs.Replay.{Run, Result, limit, lineResult, resultOf, resultText, after, lineText}
 use Rattle.transcript.specs.Chunks.{Mid, mid, step, said, fed, says}
 use Rattle.transcript.specs.Code.{Good, Results, runOf, Kept, Turns, between}
 use Rattle.transcript.specs.declared.run.Run as code

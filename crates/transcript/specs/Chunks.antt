@@ -1,6 +1,6 @@
 -- THE SAME IN CHUNKS: a text may come in pieces of any size. Between two of them stand the line so far, of which 41 bytes tell
 -- all that counts, and the run.
-use Prim.Native.Nat.{ℕ}
+use Prim.Native.Nat.{ℕ, _<_}
 use mathlib.Core.Path.{_≡_}
 use mathlib.Core.Bool.{cond}
 use mathlib.Core.List.{List, [], _∷_, _++_}
@@ -62,3 +62,7 @@ joined (t ∷ ts) = t ++ joined ts
 -- THE TEXT THEOREM: whatever the chunks, what is printed for them and at their end is the text of their concatenation
 abbrev pub TextTheorem : Type 0
 TextTheorem = (ts : List (List ℕ)) → saysAll start ts ++ ends (fedAll start ts) ≡ replayText (joined ts)
+
+-- A LAST LINE THAT LACKS ITS LINE FEED is answered as if it had it
+abbrev pub OpenLine : Type 0
+OpenLine = (m : Mid) → (m .part ≡ [] → ⊥) → m .run .lines < limit → says m (lineFeed ∷ []) ++ ends (fed m (lineFeed ∷ [])) ≡ ends m

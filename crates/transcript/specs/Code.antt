@@ -6,11 +6,11 @@ use lib.ListN.{length, take, drop}
 use Rattle.detector.specs.State.{tables, Valid}
 use Rattle.detector.specs.declared.state.Detector.{Detector}
 use Rattle.detector.specs.declared.reply.Answered.{Answered}
-use Rattle.demands.specs.Reached.{Reached}
+use Rattle.demands.specs.Reached.{room, Reached}
 use Rattle.answers.specs.Text.{Put}
 use Rattle.answers.specs.Reports.{reportsIn, reportsSize}
 use Rattle.answers.specs.Answers.{reports, number, answerRoom}
-use Rattle.transcript.specs.Replay.{Result, room, limit, begun}
+use Rattle.transcript.specs.Replay.{Result, limit, begun}
 use Rattle.transcript.specs.Replay as replay
 use Rattle.transcript.specs.Chunks.{Mid, mid, fed, says}
 use Rattle.transcript.specs.declared.run.Run.{Run}

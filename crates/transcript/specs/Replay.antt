@@ -14,6 +14,7 @@ use Rattle.detector.specs.Stuck.{stuckCount, edgeCount}
 use Rattle.detector.specs.declared.event.Event.{Event}
 use Rattle.detector.specs.declared.reply.Reply.{Reply}
 use Rattle.detector.specs.declared.reply.Reply.the-variants.{Reports, Refused}
+use Rattle.demands.specs.Reached.{room}
 use Rattle.script.specs.Lines.{lineOf}
 use Rattle.script.specs.declared.line.Line.{Line}
 use Rattle.script.specs.declared.line.Line.the-variants as line
@@ -21,10 +22,7 @@ use Rattle.answers.specs.Reports.{Entry}
 use Rattle.answers.specs.Answers.{replyText, cyclesText, endText}
 use Rattle.transcript.specs.Lines.{linesOf}
 
--- the bytes of replay's report buffer, which always suffice; the lines that are read
-abbrev pub room : ℕ
-room = 2080
-
+-- the lines that are read
 abbrev pub limit : ℕ
 limit = 1000000
 

@@ -10,7 +10,8 @@ ghost use lib.ListN.{length};
 ghost use Rattle.answers.specs.Text.{Put};
 ghost use Rattle.answers.specs.Answers.{answerRoom};
 ghost use Rattle.detector.specs.State.{tables};
-ghost use Rattle.transcript.specs.Replay.{room, limit, lineResult, resultText};
+ghost use Rattle.demands.specs.Reached.{room};
+ghost use Rattle.transcript.specs.Replay.{lineResult, resultText};
 ghost use Rattle.transcript.specs.Code.{Good, Results};
 
 fn answer_line(detector: Detector, line: Line, buf: &mut [u8]) -> Answered

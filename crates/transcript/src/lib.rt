@@ -4,7 +4,6 @@ mod ending;
 mod lines;
 mod run;
 
-pub use ending::LAST_ROOM;
 pub use ending::finish;
 pub use ending::put_sums;
 pub use lines::CARRY;

@@ -13,7 +13,8 @@ ghost use mathlib.Core.Path.{_≡_};
 ghost use Prim.Native.Nat.{_+_, _<_, _≤_};
 ghost use lib.ListN.{length};
 ghost use Rattle.answers.specs.Answers.{answerRoom};
-ghost use Rattle.transcript.specs.Replay.{room, limit};
+ghost use Rattle.demands.specs.Reached.{room};
+ghost use Rattle.transcript.specs.Replay.{limit};
 ghost use Rattle.transcript.specs.Code.{Begins, Kept, Turns, Feeds};
 
 // Lines behind this one are not read.

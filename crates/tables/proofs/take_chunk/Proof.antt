@@ -1,6 +1,6 @@
 use Rattle.transcript.specs.Code.{midOf}
 use Rattle.tables.specs.Code.{space}
-use Rattle.tables.proofs.Chunk.{Taken, taken-none, taken-more, taken-all, taken-full}
+use Rattle.transcript.proofs.Chunk.{Taken, taken-none, taken-more, taken-all, taken-full}
 use lib.Seq.{length-take-le}
 use borrow.Author.Needs.{needs}
 use mathlib.Core.Path.{_≡_, refl, sym, _∙_}

@@ -1,7 +1,7 @@
 use Rattle.transcript.proofs.Answering.{Met, met-served, met-refused, met-unread}
 use Rattle.transcript.proofs.Turning.{told-room, told-line, carried-turn, line-turn}
 use Rattle.transcript.proofs.Feeding.{Going, going-none, going-turn, going-done}
-use Rattle.transcript.specs.Replay.{room}
+use Rattle.demands.specs.Reached.{room}
 use Rattle.transcript.specs.Code.{midOf}
 use Rattle.answers.proofs.Bounds.{Bytes}
 use Rattle.detector.specs.State.{tables, Valid}
