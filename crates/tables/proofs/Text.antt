@@ -9,9 +9,9 @@ use lib.ListN.{take}
 use Rattle.script.specs.Fields.{onFirst}
 use Rattle.listing.specs.Listing.{tablesText}
 use Rattle.transcript.specs.Lines.{lineFeed, linesOf}
-use Rattle.transcript.specs.Replay.{Run, Result, limit, begun, after, lineText, lastText, resultText}
-use Rattle.transcript.specs.Chunks.{Mid, mid, start, step, fed, lastLine, fedAll, joined}
-use Rattle.transcript.proofs.Text.{fed-append, fed-joined, cut-result, cut-more}
+use Rattle.transcript.specs.Replay.{Run, Result, limit, begun, after, lineText, resultText}
+use Rattle.transcript.specs.Chunks.{Mid, mid, start, step, fed, lastLine, joined}
+use Rattle.transcript.proofs.Text.{fed-joined, cut-result, cut-more}
 use Rattle.tables.specs.Shown.{lineShown, shownOf, shownText, shown, shows, closes, showsAll, ShownTheorem}
 use Rattle.tables.specs.Code.{feeds}
 use Rattle.tables.proofs.Lines.{feeds-more, shown-full}

@@ -7,7 +7,7 @@ use Prim.Native.Nat.{ℕ, _+_, _*_, _-_, _<_, _≤_}
 use native.Mathlib.Omega.{arith}
 use borrow.Author.Tests.{lt-ltb, le-ltb}
 use lib.Dec.{ltb}
-use lib.ListN.{length, take, drop, length-take, take-append-drop}
+use lib.ListN.{length, take, drop, take-append-drop}
 use lib.Seq.{slice-empty, take-take, drop-append-le, length-take-le}
 use Rattle.answers.specs.Text.{Put}
 use Rattle.answers.specs.Answers.{answerRoom, endText}

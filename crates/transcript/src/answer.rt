@@ -5,7 +5,7 @@ use detector::Detector;
 use detector::Reply;
 use script::Line;
 ghost use mathlib.Core.Path.{_≡_};
-ghost use Prim.Native.Nat.{_+_, _<_, _≤_};
+ghost use Prim.Native.Nat.{_+_, _≤_};
 ghost use lib.ListN.{length};
 ghost use Rattle.answers.specs.Text.{Put};
 ghost use Rattle.answers.specs.Answers.{answerRoom};

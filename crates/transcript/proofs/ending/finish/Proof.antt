@@ -1,6 +1,5 @@
 use Rattle.transcript.proofs.Feeding.{ends-closed}
 use borrow.Author.Needs.{needs}
-use native.Mathlib.Omega.{arith}
 use Rattle.transcript.proofs.ending.finish.Statement.{statement}
 use Rattle.transcript.proofs.ending.finish.Tie as tie
 
