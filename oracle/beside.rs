@@ -436,6 +436,43 @@ fn runs_of(lines: &[String]) -> Vec<String> {
 
 // The fixed list.
 
+/// The sizes of the list's scripts of one kind, and how many bytes script and output may have. A full
+/// count takes 256 lines.
+fn sizes(kind: &str) -> &'static [(usize, usize)] {
+    match kind {
+        "limits" => &[(40, 9_000), (200, 30_000)],
+        "long" => &[(30, 24_000)],
+        _ => &[(16, 4_000), (40, 12_000)],
+    }
+}
+
+/// The documents' sessions, and of each kind the scripts that say most: of the first hundred seeds
+/// the one with the most reports and different refusals that has not too many bytes.
+fn chosen(run: &dyn Fn(&[u8]) -> Vec<u8>) -> Vec<(String, Vec<u8>)> {
+    let mut all: Vec<(String, Vec<u8>)> = Vec::new();
+    for (name, text, _) in scripts::SESSIONS {
+        all.push((format!("sessions-{}", name.replace([' ', ','], "-")), scripts::session(text)));
+    }
+    for (kind, _) in scripts::KINDS.iter().filter(|k| k.0 != "sessions") {
+        for (i, &(size, bytes)) in sizes(kind).iter().enumerate() {
+            let made = (0..100u64).map(|seed| scripts::make(kind, seed, size)).map(|script| (run(&script), script));
+            let fits = made.filter(|(out, script)| out.len() + script.len() <= bytes);
+            let best = fits.min_by_key(|(out, _)| std::cmp::Reverse(says(out)));
+            let (_, script) = best.unwrap_or_else(|| panic!("{kind}: no script of {bytes} bytes"));
+            all.push((format!("{kind}-{}", i + 1), script));
+        }
+    }
+    all
+}
+
+/// How much an output says: its reports, and which refusals it has.
+fn says(out: &[u8]) -> usize {
+    let lines: Vec<&[u8]> = out.split(|&b| b == b'\n').collect();
+    let reports = lines.iter().filter(|l| l.starts_with(b"cycle")).count();
+    let refusals = (b'1'..=b'8').filter(|&n| lines.iter().any(|l| l.ends_with(&[b'\t', b'n', b'o', b'\t', n]))).count();
+    reports + 3 * refusals
+}
+
 /// Writes a small set of scripts of all kinds with what the ordered copy prints for them. Joined, they
 /// stand in one script, with lines between that lead back to the empty state.
 fn sample(folder: &Path, joined: bool) {
@@ -447,21 +484,7 @@ fn sample(folder: &Path, joined: bool) {
         desk.run(&ordered, script, Feed::File)
     };
 
-    let mut all: Vec<(String, Vec<u8>)> = Vec::new();
-    for (name, text, _) in scripts::SESSIONS {
-        all.push((format!("sessions-{}", name.replace([' ', ','], "-")), scripts::session(text)));
-    }
-    for (kind, _) in scripts::KINDS.iter().filter(|k| k.0 != "sessions") {
-        let sizes: &[usize] = match *kind {
-            "limits" => &[200, 300],
-            "long" => &[30],
-            _ => &[12, 30, 60],
-        };
-        for (i, size) in sizes.iter().enumerate() {
-            all.push((format!("{kind}-{}", i + 1), scripts::make(kind, 7000 + i as u64, *size)));
-        }
-    }
-
+    let all = chosen(&run);
     let mut lines = 0;
     if joined {
         let mut script = Vec::new();
