@@ -73,7 +73,7 @@ enum Pair {
     Tables,
     /// all answers: the program replay beside the ordered copy
     Replay,
-    /// all answers: the ordered copy beside the untouched source
+    /// all answers and tables: the ordered copy beside the untouched source
     Untouched,
     /// all answers: the program replay beside the untouched source
     ReplayUntouched,
@@ -103,7 +103,7 @@ fn run(words: &[String]) {
     kinds.push("million");
     let (mut under, mut replay) = (None, None);
     let mut ordered = Program::with(&bin().join("ordered"), Some("tables"));
-    let mut untouched = Program::with(&bin().join("untouched"), None);
+    let mut untouched = Program::with(&bin().join("untouched"), Some("tables"));
     let mut at = 0;
     while at < words.len() {
         let word = words[at].as_str();
@@ -194,7 +194,7 @@ impl Runner {
             compared.push("every answer of replay equals the ordered copy's".to_string());
         }
         if beside_untouched > 0 {
-            compared.push(format!("{beside_untouched} lines beside the untouched source: every answer equal"));
+            compared.push(format!("{beside_untouched} lines beside the untouched source: every answer and all tables equal"));
         }
         println!(
             "beside: seed {seed}, {total} lines: {} ({:.1} s)",
@@ -271,8 +271,8 @@ impl Runner {
         Some(match pair {
             Pair::Tables => (run(&self.ordered), run(self.under.as_ref()?)),
             Pair::Replay => (runner::answers_only(&run(&self.ordered)), run(self.replay.as_ref()?)),
-            Pair::Untouched => (run(&self.untouched), runner::answers_only(&run(&self.ordered))),
-            Pair::ReplayUntouched => (run(&self.untouched), run(self.replay.as_ref()?)),
+            Pair::Untouched => (run(&self.untouched), run(&self.ordered)),
+            Pair::ReplayUntouched => (runner::answers_only(&run(&self.untouched)), run(self.replay.as_ref()?)),
         })
     }
 
@@ -446,12 +446,15 @@ fn sizes(kind: &str) -> &'static [(usize, usize)] {
     }
 }
 
-/// The documents' sessions, and of each kind the scripts that say most: of the first hundred seeds
+/// The documents' sessions, the readings, and of each kind the scripts that say most: of the first hundred seeds
 /// the one with the most reports and different refusals that has not too many bytes.
 fn chosen(run: &dyn Fn(&[u8]) -> Vec<u8>) -> Vec<(String, Vec<u8>)> {
     let mut all: Vec<(String, Vec<u8>)> = Vec::new();
     for (name, text, _) in scripts::SESSIONS {
         all.push((format!("sessions-{}", name.replace([' ', ','], "-")), scripts::session(text)));
+    }
+    for (name, text) in scripts::READINGS {
+        all.push((format!("reading-{name}"), scripts::session(text)));
     }
     for (kind, _) in scripts::KINDS.iter().filter(|k| k.0 != "sessions") {
         for (i, &(size, bytes)) in sizes(kind).iter().enumerate() {

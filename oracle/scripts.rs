@@ -162,6 +162,22 @@ pub const SESSIONS: &[(&str, &str, &str)] = &[
     ("refusals by kind", "cb 1 16 64,ma 1 64 32,ma 999 1 -,ma 1000 1 -,rt 32 64 5", "1 no 4,2 no 3,3 no 3,4 no 1,5 no 1,end 5 0 0"),
 ];
 
+/// Wrong readings that the other scripts of the fixed list pass by, each with the shortest script that
+/// `mutants` found for it. (One more, of lines behind the 1,000,000th, would be too long for the list.)
+pub const READINGS: &[(&str, &str)] = &[
+    ("second-look-stops", "ma 6 25 31,ma 8 44 6,ma 12 25 19,ma 19 44 -,ma 31 44 -"),
+    ("second-filter", "ra 25 40 24,ma 21 19 took,ra 21 40 -,ra 24 40 21"),
+    ("second-look-downward", "rc 19 6,rc 28 48,rc 13 35,rc 30 42,wa 4 6 -,wa 19 48 -,wa 13 42 -,wa 28 35 -,rd 35,wa 24 48 19,ra 30 53 4"),
+    ("validate-by-waiters", "cb 18 10 21,mc 18 47,ma 19 47 -,ma 18 21 19,rd 47,ca 10"),
+    ("filter-two-threads", "mc 3 35,mc 13 35,mc 3 51,mc 8 41,mc 9 6,ma 13 51 -,ma 3 41 -,ma 8 6 -,ma 9 35 -"),
+    ("validate-then-filter", "ma 31 63 -,mc 17 63,rt 17 12 took,rc 27 12,wa 17 12 -,ma 27 63 31"),
+    ("wr-refreshes", "rc 13 54,wa 19 54 -,rc 4 54,wr 2 54"),
+    ("wake-not-filtered", "ma 15 33 15,cb 15 8 33,ma 15 10 took,ca 8"),
+    ("ca-upward", "ma 15 33 15,ma 15 10 took,cb 10 8 33,cb 10 8 10,ca 8"),
+    ("ce-first-pair", "cb 10 15 3,cb 10 15 3,ce 10 15 3"),
+    ("ce-any-lock", "cb 10 15 8,ce 10 15 3"),
+];
+
 pub fn session(text: &str) -> Vec<u8> {
     let mut out = Vec::new();
     for line in text.split(',') {
