@@ -39,18 +39,6 @@ fn taken(mut w: Waits, t: usize, l: usize) -> Waits
     w.clear_wait_intent(t)
 }
 
-fn given_up(mut w: Waits, t: usize, l: usize) -> Waits
-    requires { ⌜ InRange w × (t < 32) × (l < 64) ⌝ }
-    ensures { λ r. ⌜ (r ≡ released w t l) × InRange r ⌝ }
-{
-    if w.mutex_owners[l] as usize == t {
-        w.mutex_owners[l] = 32;
-    }
-    let holds = w.thread_holds[t];
-    w.thread_holds[t] = locks::without(holds, l);
-    w
-}
-
 // The tables before anybody's wait is looked at.
 fn tried(w: Waits, t: usize, l: usize, o: Outcome) -> Waits
     requires { ⌜ InRange w × (t < 32) × (l < 64) × (hintOf o < 32) ⌝ }
@@ -138,13 +126,16 @@ impl Detector {
         ensures { λ r. ⌜ Does r (now (buf .entry)) (now (buf .exit)) (mutexAttempt (tables self) t l o) ⌝ }
     {
         let w0 = self.waits;
-        let w = tried(w0, t, l, o);
-        let mut d = w.quiet(0);
+        let mut w = tried(w0, t, l, o);
+        let mut reports = 0;
         if must_look(w, l, o) {
             let counts = self.readers();
-            d = looked(w, &counts, t, l, o, buf);
+            let d = looked(w, &counts, t, l, o, buf);
+            let next = d.waits;
+            w = next;
+            reports = d.reports;
         }
-        self.told(d)
+        self.with_waits(w, reports)
     }
 
     // mc
@@ -167,13 +158,17 @@ impl Detector {
         requires { ⌜ Valid self × (t < 32) × (l < 64) ⌝ }
         ensures { λ r. ⌜ ((b : List ℕ) → Does r b b (releaseMutex (tables self) t l)) ⌝ }
     {
-        let w0 = self.waits;
-        let mut w = given_up(w0, t, l);
+        let mut w = self.waits;
+        if w.mutex_owners[l] as usize == t {
+            w.mutex_owners[l] = 32;
+        }
+        let holds = w.thread_holds[t];
+        w.thread_holds[t] = locks::without(holds, l);
         if w.lock_waiters[l] != 0 {
             let counts = self.readers();
             let k = w.refresh_waiters_for_lock(&counts, l);
-            let next = k.waits;
-            w = next;
+            let graph = k.graph;
+            w.wait_for_graph = graph;
         }
         self.with_waits(w, 0)
     }

@@ -3,7 +3,7 @@ ghost use mathlib.Core.Path.{_≡_};
 ghost use mathlib.Core.List.{List};
 ghost use Prim.Native.Nat.{ℕ, _+_, _*_, _<_, _≤_};
 ghost use lib.ListN.{length, getD};
-ghost use Rattle.waits.specs.Tables.{InRange, write};
+ghost use Rattle.waits.specs.Tables.{InRange, withGraph, write};
 ghost use Rattle.waits.specs.Owners.{countOf};
 ghost use Rattle.waits.specs.Report.{reportBytes};
 ghost use Rattle.waits.specs.Code.{Tells};
@@ -15,6 +15,7 @@ use crate::mutex::must_look;
 use crate::mutex::purged;
 use crate::reply::Done;
 use crate::state::Detector;
+use graph::WaitForGraph;
 use sets::locks;
 use waits::Outcome;
 use waits::Told;
@@ -102,18 +103,18 @@ fn write_looked(
     }
 }
 
-// The edges from l's waiters to t go.
-fn loosened(mut w: Waits, t: usize, l: usize) -> Waits
-    requires { ⌜ InRange w × (t < 32) × (l < 64) ⌝ }
-    ensures { λ r. ⌜ (r ≡ loosen w t l) × InRange r ⌝ }
+// The graph without the edges from l's waiters to t.
+fn loosened(w: Waits, t: usize, l: usize) -> WaitForGraph
+    requires { ⌜ (t < 32) × (l < 64) ⌝ }
+    ensures { λ r. ⌜ withGraph w r ≡ loosen w t l ⌝ }
 {
-    let waiters = w.lock_waiters[l];
-    if waiters != 0 {
-        let g = w.wait_for_graph;
-        let next = g.remove_edges_to(waiters, t);
-        w.wait_for_graph = next;
+    let all = w.lock_waiters;
+    let waiters = all[l];
+    let g = w.wait_for_graph;
+    if waiters == 0 {
+        return g;
     }
-    w
+    g.remove_edges_to(waiters, t)
 }
 
 fn counted_up(counts: [u8; 2048], t: usize, l: usize) -> [u8; 2048]
@@ -194,14 +195,15 @@ impl Detector {
         requires { ⌜ Valid self × (t < 32) × (l < 64) × (fullTry (tables self) t l o ≡ 0) ⌝ }
         ensures { λ r. ⌜ ((b : List ℕ) → Does r b b (readTry (tables self) t l o)) ⌝ }
     {
-        let w0 = self.waits;
+        let mut w = self.waits;
         let Tried::Taken = o else {
-            return self.with_waits(w0, 0);
+            return self.with_waits(w, 0);
         };
         let counts = self.readers();
         let more = counted_up(counts, t, l);
-        let k = w0.refresh_waiters_for_lock(&more, l);
-        let w = k.waits;
+        let k = w.refresh_waiters_for_lock(&more, l);
+        let graph = k.graph;
+        w.wait_for_graph = graph;
         self.with_counts(w, more)
     }
 
@@ -215,7 +217,8 @@ impl Detector {
         let mut w = self.waits;
         let at = l * 32 + t;
         if fewer[at] == 0 {
-            w = loosened(w, t, l);
+            let graph = loosened(w, t, l);
+            w.wait_for_graph = graph;
         }
         self.with_counts(w, fewer)
     }
@@ -232,13 +235,16 @@ impl Detector {
         ensures { λ r. ⌜ Does r (now (buf .entry)) (now (buf .exit)) (writeAttempt (tables self) t l o) ⌝ }
     {
         let w0 = self.waits;
-        let w = write_tried(w0, t, l, o);
-        let mut d = w.quiet(0);
+        let mut w = write_tried(w0, t, l, o);
+        let mut reports = 0;
         if must_look(w, l, o) {
             let counts = self.readers();
-            d = write_looked(w, &counts, t, l, o, buf);
+            let d = write_looked(w, &counts, t, l, o, buf);
+            let next = d.waits;
+            w = next;
+            reports = d.reports;
         }
-        self.told(d)
+        self.with_waits(w, reports)
     }
 
     // wc
@@ -262,8 +268,9 @@ impl Detector {
         ensures { λ r. ⌜ ((b : List ℕ) → Does r b b (releaseWrite (tables self) t l)) ⌝ }
     {
         let w0 = self.waits;
-        let a = write_given_up(w0, t, l);
-        let w = loosened(a, t, l);
+        let mut w = write_given_up(w0, t, l);
+        let graph = loosened(w, t, l);
+        w.wait_for_graph = graph;
         self.with_waits(w, 0)
     }
 

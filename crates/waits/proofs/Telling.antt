@@ -8,18 +8,20 @@ use native.Mathlib.Omega.{arith}
 use lib.ListN.{length, take, drop, getD, set, replicate}
 use lib.Seq.{length-take-le, take-append-seam, sets, length-sets}
 use Rattle.sets.proofs.Walk.{upward-zero}
-use Rattle.graph.specs.Code.{answered, foundIn, listOf, Fit}
+use Rattle.graph.specs.Code.{answered, added, foundIn, listOf, Fit}
 use Rattle.graph.specs.declared.path.Path.{Path}
+use Rattle.graph.specs.declared.wait_for_graph.Added.{Added}
 use Rattle.graph.proofs.Fits.{found-in}
-use Rattle.waits.specs.Tables.{intentOf, lockOf, waitersOf, InRange}
-use Rattle.waits.specs.Waiting.{Step, register, renewAll, refresh, refreshLocks}
+use Rattle.waits.specs.Tables.{intentOf, lockOf, waitersOf, withGraph, InRange}
+use Rattle.waits.specs.Waiting.{Step, register, renewAll, refreshed, refresh, refreshLocks}
 use Rattle.waits.specs.Report.{Report, Said, report, entryBytes, entries, bytesOf, written, quiet, saying}
 use Rattle.waits.specs.Validate.{valid, awaitedLocks, checked, validate}
 use Rattle.waits.specs.Attempt.{judgedOf, judged, sievedOf, settle, block, blockMutex, mutexOn, readOn, writeOn, free, blockWrite}
-use Rattle.waits.specs.Code.{told, laid, sievedFor, attemptFor, Tells}
+use Rattle.waits.specs.Code.{told, laid, freeFor, sievedFor, attemptFor, Tells}
 use Rattle.waits.specs.declared.tables.Waits.{Waits}
 use Rattle.waits.specs.declared.tables.Linked.{Linked}
 use Rattle.waits.specs.declared.tables.Told.{Told}
+use Rattle.waits.specs.declared.intent.WaitIntent.{WaitIntent}
 use Rattle.waits.specs.declared.intent.WaitMode.the-variants.{Mutex, RwRead, RwWrite}
 use Rattle.waits.proofs.Masks.{next-of, done-of}
 
@@ -143,9 +145,19 @@ module _ (c : List ℕ) (w : Waits) (p : List ℕ) where
 pub found-told : (F : Waits → Option (List ℕ) → Said) (s : Step) (k : Linked) → k ≡ told s → F (k .waits) (foundIn (k .sought)) ≡ F (s .waits) (s .found)
 found-told F s k e = ap (λ (k : Linked). F (k .waits) (foundIn (k .sought))) e ∙ ap (F (s .waits)) (found-in (s .found))
 
-pub settle-told : (c : List ℕ) (w : Waits) (l : ℕ) (k : Linked) → k ≡ told (refresh c w l) → judgedOf c (k .waits) (foundIn (k .sought)) ≡ settle c w l
+-- a refresh changes no table but the graph
+pub refresh-linked : (c : List ℕ) (w : Waits) (l : ℕ) (k : Added) → k ≡ added (refreshed c w l)
+    → _≡_ {A = Linked} (record { waits = withGraph w (k .graph); sought = k .sought }) (told (refresh c w l))
+unfolding refresh
+refresh-linked c w l k e = ap (λ (k : Added). record { waits = withGraph w (k .graph); sought = k .sought }) e
+
+pub refresh-graph : (c : List ℕ) (w : Waits) (l : ℕ) (k : Added) → k ≡ added (refreshed c w l) → withGraph w (k .graph) ≡ refresh c w l .waits
+refresh-graph c w l k e = ap (λ (x : Linked). x .waits) (refresh-linked c w l k e)
+
+pub settle-told : (c : List ℕ) (w : Waits) (l : ℕ) (k : Added) → k ≡ added (refreshed c w l)
+    → judgedOf c (withGraph w (k .graph)) (foundIn (k .sought)) ≡ settle c w l
 unfolding settle
-settle-told c w l k e = found-told (judgedOf c) (refresh c w l) k e
+settle-told c w l k e = found-told (judgedOf c) (refresh c w l) _ (refresh-linked c w l k e)
 
 -- the one attempt of the code is each mode's rule
 sieved-mutex : (c : List ℕ) (w : Waits) (o : Option (List ℕ)) → sievedFor Mutex c w o ≡ sievedOf c w o
@@ -159,6 +171,10 @@ judged-read c w (some p) = refl
 judged-write : (c : List ℕ) (w : Waits) (o : Option (List ℕ)) → sievedFor RwWrite c w o ≡ judgedOf c w o
 judged-write c w none = refl
 judged-write c w (some p) = refl
+
+pub attempt-told : (c : List ℕ) (w : Waits) (t : ℕ) (i : WaitIntent) (k : Linked) → k ≡ told (register c w t i) → freeFor (i .mode) c w (i .«lock_id») ≡ false
+    → sievedFor (i .mode) c (k .waits) (foundIn (k .sought)) ≡ attemptFor c w t i
+attempt-told c w t i k e f = found-told (sievedFor (i .mode) c) (register c w t i) k e ∙ rw f
 
 module _ (c : List ℕ) (w : Waits) (t l : ℕ) where
   pub attempt-mutex : attemptFor c w t (mutexOn l) ≡ blockMutex c w t l

@@ -58,8 +58,11 @@ start w = adding (w .«wait_for_graph») none
 unfoldable pub renewAll : List ℕ → Waits → List ℕ → Adding
 renewAll c w ts = foldl (renew c w) (start w) ts
 
+abbrev pub refreshed : List ℕ → Waits → ℕ → Adding
+refreshed c w l = renewAll c w (upward 32 (waitersOf w l))
+
 unfoldable pub refresh : List ℕ → Waits → ℕ → Step
-refresh c w l = linked w (renewAll c w (upward 32 (waitersOf w l)))
+refresh c w l = linked w (refreshed c w l)
 
 -- several locks, one after the other; keep the first path of all
 unfoldable pub refreshNext : List ℕ → Step → ℕ → Step

@@ -6,7 +6,7 @@ ghost use Rattle.graph.specs.Code.{Fit, foundIn, listOf};
 ghost use Rattle.waits.specs.Tables.{InRange};
 ghost use Rattle.waits.specs.Attempt.{judgedOf, settle, block, blockMutex, readOn, free, blockWrite};
 ghost use Rattle.waits.specs.Report.{reportBytes};
-ghost use Rattle.waits.specs.Code.{freeFor, passesFor, sievedFor, attemptFor, Tells};
+ghost use Rattle.waits.specs.Code.{freeFor, passesFor, attemptFor, Tells};
 use crate::intent::WaitIntent;
 use crate::intent::WaitMode;
 use crate::tables::Told;
@@ -80,38 +80,16 @@ impl Waits {
         }
     }
 
-    // A path found that passes is validated.
-    fn sieved(
-        self,
-        counts: &[u8; 2048],
-        i: WaitIntent,
-        s: Sought,
-        buf: &mut [u8],
-        from: usize,
-    ) -> Told
-        requires { ⌜ InRange self × Fit (s .path) × (from + reportBytes ≤ length (now buf)) ⌝ }
-        ensures { λ r. ⌜ Tells r (now (buf .entry)) (now (buf .exit)) from (sievedFor (i .mode) (now (counts .entry)) self (foundIn s)) ⌝ }
-    {
-        let answer = s.answer;
-        let cycle = s.path;
-        let Answer::Found = answer else {
-            return self.quiet(from);
-        };
-        if self.passes_for(counts, i, cycle) {
-            return self.validated_deadlock_info(counts, cycle, buf, from);
-        }
-        self.quiet(from)
-    }
-
     // Refresh l, validate a path.
-    pub fn settle(self, counts: &[u8; 2048], l: usize, buf: &mut [u8], from: usize) -> Told
+    pub fn settle(mut self, counts: &[u8; 2048], l: usize, buf: &mut [u8], from: usize) -> Told
         requires { ⌜ InRange self × (l < 64) × (from + reportBytes ≤ length (now buf)) ⌝ }
         ensures { λ r. ⌜ Tells r (now (buf .entry)) (now (buf .exit)) from (settle (now (counts .entry)) self l) ⌝ }
     {
         let k = self.refresh_waiters_for_lock(counts, l);
-        let w = k.waits;
+        let graph = k.graph;
         let s = k.sought;
-        w.judged(counts, s, buf, from)
+        self.wait_for_graph = graph;
+        self.judged(counts, s, buf, from)
     }
 
     // Register, judge the path. One function for all modes, so that the tables are handed on once.
@@ -132,7 +110,15 @@ impl Waits {
         let k = self.register_wait(counts, t, i);
         let w = k.waits;
         let s = k.sought;
-        w.sieved(counts, i, s, buf, from)
+        let answer = s.answer;
+        let cycle = s.path;
+        let Answer::Found = answer else {
+            return w.quiet(from);
+        };
+        if w.passes_for(counts, i, cycle) {
+            return w.validated_deadlock_info(counts, cycle, buf, from);
+        }
+        w.quiet(from)
     }
 
     // Register Mutex; a path must pass the filter, then validate.

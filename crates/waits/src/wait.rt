@@ -9,7 +9,7 @@ ghost use Rattle.graph.specs.Graph.{one, clearWaitEdges};
 ghost use Rattle.graph.specs.Code.{Fit, listOf, added};
 ghost use Rattle.waits.specs.Tables.{InRange, intentOf, lockOf, withGraph};
 ghost use Rattle.waits.specs.Owners.{readers, owners, waitsFor};
-ghost use Rattle.waits.specs.Waiting.{unwaited, clear, setIntent, register, renewAll, refresh, refreshLocks};
+ghost use Rattle.waits.specs.Waiting.{unwaited, clear, setIntent, register, renewAll, refreshed, refreshLocks};
 ghost use Rattle.waits.specs.Validate.{valid, validate};
 ghost use Rattle.waits.specs.Report.{reportBytes};
 ghost use Rattle.waits.specs.Code.{told, renewC, refreshNextC, awaitedMask, withAwaited, Tells};
@@ -178,19 +178,14 @@ impl Waits {
         Added { graph, sought }
     }
 
-    pub fn refresh_waiters_for_lock(mut self, counts: &[u8; 2048], l: usize) -> Linked
+    // The graph after it, and the path: a refresh changes no other table.
+    pub fn refresh_waiters_for_lock(self, counts: &[u8; 2048], l: usize) -> Added
         requires { ⌜ (l < 64) × InRange self ⌝ }
-        ensures { λ r. ⌜ (r ≡ told (refresh (now (counts .entry)) self l)) × InRange (r .waits) ⌝ }
+        ensures { λ r. ⌜ r ≡ added (refreshed (now (counts .entry)) self l) ⌝ }
     {
-        let waiters = self.lock_waiters[l];
-        let a = self.renew_all(counts, waiters);
-        let graph = a.graph;
-        let sought = a.sought;
-        self.wait_for_graph = graph;
-        Linked {
-            waits: self,
-            sought,
-        }
+        let all = self.lock_waiters;
+        let waiters = all[l];
+        self.renew_all(counts, waiters)
     }
 
     fn renew_all(self, counts: &[u8; 2048], waiters: u32) -> Added
@@ -323,12 +318,13 @@ impl Linked {
         requires { ⌜ (l < 64) × InRange (self .waits) ⌝ }
         ensures { λ r. ⌜ (r ≡ refreshNextC (now (counts .entry)) self l) × InRange (r .waits) ⌝ }
     {
-        let w = self.waits;
+        let mut w = self.waits;
         let before = self.sought;
         let n = w.refresh_waiters_for_lock(counts, l);
-        let waits = n.waits;
+        let graph = n.graph;
         let later = n.sought;
+        w.wait_for_graph = graph;
         let sought = before.or(later);
-        Linked { waits, sought }
+        Linked { waits: w, sought }
     }
 }

@@ -1,5 +1,3 @@
-use Rattle.detector.proofs.Ranges.{range-loosen}
-use Rattle.waits.proofs.Steps.{pack}
 use Rattle.graph.specs.Graph.{removeEdgesTo}
 use Rattle.sets.proofs.Walk.{upward-zero}
 use Rattle.detector.specs.RwLock.{loosen}
@@ -10,21 +8,20 @@ use Rattle.detector.proofs.rwlock.loosened.Tie as tie
 mul-waiters : tie.Need-mul-waiters
 mul-waiters c = search needs
 
-element-copy-out-waiters : tie.Need-element-copy-out-waiters
-element-copy-out-waiters c = search needs
+array-read-waiters : tie.Need-array-read-waiters
+array-read-waiters c = search needs
+
+returns : tie.Need-returns
+unfolding loosen removeEdgesTo
+returns c = rw (c .if1 .taken, upward-zero 32 0)
 
 remove-edges-to-requires : tie.Need-remove-edges-to-requires
 remove-edges-to-requires c κs = search needs
 
-returns : tie.Need-returns
-unfolding loosen
-returns c = pack (rw (c .remove-edges-to .ensures)) (range-loosen _ _ _ (c .before .before .before .before .pre .0))
-
 returns-2 : tie.Need-returns-2
-unfolding loosen removeEdgesTo
-returns-2 c = pack (rw (c .if1 .left, upward-zero 32 0)) (range-loosen _ _ _ (c .before .before .pre .0))
+unfolding loosen
+returns-2 c = rw (c .remove-edges-to .ensures)
 
 pub loosened-spec : {M : Type 1} → statement M
 loosened-spec =
-    tie.close
-    (tie.spec mul-waiters element-copy-out-waiters remove-edges-to-requires returns returns-2)
+    tie.close (tie.spec mul-waiters array-read-waiters returns remove-edges-to-requires returns-2)

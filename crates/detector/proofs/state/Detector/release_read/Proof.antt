@@ -1,11 +1,13 @@
 use Rattle.waits.specs.Tables.{InRange}
+use Rattle.waits.specs.declared.tables.Waits.{Waits}
+use Rattle.detector.proofs.Ranges.{range-loosen}
 use Rattle.detector.proofs.Promises.{redo, does-counts, count-down-at}
 use Rattle.detector.specs.State.{tables}
 use Rattle.detector.specs.Tables.{withCounts, silent}
 use Rattle.detector.specs.RwLock.{releaseRead, countDown, loosen}
 use Rattle.waits.specs.Owners.{countOf}
 use borrow.Author.Needs.{needs}
-use mathlib.Core.Path.{_≡_, sym, ap, ap₂, _∙_}
+use mathlib.Core.Path.{_≡_, sym, ap, ap₂, subst, _∙_}
 use mathlib.Core.Logic.{⊎-elim}
 use mathlib.Core.Bool.{cond}
 use Prim.Native.Nat.{_+_, _*_, _-_}
@@ -35,12 +37,14 @@ met : (c : tie.Joined1)
 met c =
     let a = c .before .before .before .before .args in
     ⊎-elim
-    (λ z. rw (z .2, z .1 .ensures .0, eq-eqb _ _ (sym (fallen c) ∙ z .0 .taken)))
+    (λ z. z .2 ∙ z .1 .ensures ∙ rw (eq-eqb _ _ (sym (fallen c) ∙ z .0 .taken)))
     (λ z. rw (z .1, ne-eqb _ _ (λ e. z .0 .left (fallen c ∙ e))))
     (c .if1 .came)
 
 ranged : (c : tie.Joined1) → InRange (c .if1 .w)
-ranged c = ⊎-elim (λ z. rw (z .2) (z .1 .ensures .1)) (λ z. rw (z .1) (c .before .before .before .before .pre .0 .waits)) (c .if1 .came)
+ranged c =
+    let s = c .before .before .before .before .pre .0 .waits in
+    ⊎-elim (λ z. subst (λ (w : Waits). InRange w) (sym (z .2 ∙ z .1 .ensures)) (range-loosen _ _ _ s)) (λ z. rw (z .1) s) (c .if1 .came)
 
 readers-requires : tie.Need-readers-requires
 readers-requires c κs = search needs

@@ -1,9 +1,13 @@
 use Rattle.detector.proofs.Promises.{redo, does-waits, does-counts, not-full}
+use Rattle.waits.proofs.Telling.{refresh-graph}
+use Rattle.waits.proofs.Laws.{range-refresh}
+use Rattle.waits.specs.Tables.{InRange}
+use Rattle.waits.specs.declared.tables.Waits.{Waits}
 use Rattle.detector.specs.State.{tables}
 use Rattle.detector.specs.Tables.{withCounts, silent}
 use Rattle.detector.specs.RwLock.{tryRead}
 use borrow.Author.Needs.{needs}
-use mathlib.Core.Path.{ap, ap₂, _∙_}
+use mathlib.Core.Path.{sym, ap, ap₂, subst, _∙_}
 use Rattle.detector.proofs.state.Detector.try_read_nonblocking.Statement.{statement}
 use Rattle.detector.proofs.state.Detector.try_read_nonblocking.Tie as tie
 
@@ -40,13 +44,13 @@ returns-2 : tie.Need-returns-2
 unfolding tryRead
 returns-2 c =
     let s = c .before .before .before .before .before .before .before .before .before in
-    let e = c .before .before .refresh-waiters-for-lock .ensures in
+    let g = refresh-graph _ (s .args .self .waits) (s .args .l) _ (c .before .before .refresh-waiters-for-lock .ensures) in
     let n = c .before .before .before .before .counted-up .ensures in
     let r = c .before .before .before .before .before .readers .ensures in
     λ b.
     rw (c .before .before .before .before .before .before .enum-told .given .1)
-    (redo (ap₂ (λ w k. silent (withCounts (tables (s .args .self)) w k)) (ap (λ k. k .waits) (e .0) ∙ rw (n, r)) (n ∙ rw r))
-    (does-counts (s .args .self) _ _ _ (c .with-counts .ensures) (s .pre .0) (e .1) b))
+    (redo (ap₂ (λ w k. silent (withCounts (tables (s .args .self)) w k)) (g ∙ rw (n, r)) (n ∙ rw r))
+    (does-counts (s .args .self) _ _ _ (c .with-counts .ensures) (s .pre .0) (subst (λ (w : Waits). InRange w) (sym g) (range-refresh _ _ _ (s .pre .0 .waits))) b))
 
 pub try-read-nonblocking-spec : {M : Type 1} → statement M
 try-read-nonblocking-spec =

@@ -1,7 +1,5 @@
-use Rattle.waits.proofs.Telling.{retell, hush-tells, found-told}
+use Rattle.waits.proofs.Telling.{retell, hush-tells, attempt-told}
 use Rattle.waits.proofs.Laws.{fits-register}
-use Rattle.waits.specs.Waiting.{register}
-use Rattle.waits.specs.Code.{sievedFor}
 use borrow.Author.Needs.{needs}
 use mathlib.Core.Path.{sym, _∙_}
 use Rattle.waits.proofs.tables.Waits.attempt.Statement.{statement}
@@ -20,19 +18,51 @@ returns c =
 register-wait-requires : tie.Need-register-wait-requires
 register-wait-requires c κs = search needs
 
-sieved-requires : tie.Need-sieved-requires
-sieved-requires c κs =
-    let r = c .before .before .before .register-wait .ensures in
-    (r .1, rw (r .0) (fits-register _ _ _ _), c .before .before .before .before .before .before .before .pre .3)
+enum-told : tie.Need-enum-told
+enum-told c = search needs
+
+enum-told-2 : tie.Need-enum-told-2
+enum-told-2 c = search needs
+
+quiet-requires-2 : tie.Need-quiet-requires-2
+quiet-requires-2 c κs = search needs
+
+returns-2 : tie.Need-returns-2
+returns-2 c =
+    let r = c .before .before .before .before .before .before in
+    let a = r .before .before .before .before .args in
+    retell (attempt-told _ (a .self) (a .t) (a .i) _ (r .register-wait .ensures .0) (sym (r .before .before .is-free-for .ensures) ∙ r .before .if1 .left))
+    (rw (c .before .enum-told2 .given .1) (hush-tells _ _ _ _ (c .quiet2 .ensures) (r .register-wait .ensures .1)))
+
+passes-for-requires : tie.Need-passes-for-requires
+passes-for-requires c κs = rw (c .before .before .before .before .before .register-wait .ensures .0) (fits-register _ _ _ _)
+
+validated-deadlock-info-requires : tie.Need-validated-deadlock-info-requires
+validated-deadlock-info-requires c κs =
+    let r = c .before .before .before .before .before .before .before .before .register-wait .ensures in
+    (r .1, rw (r .0) (fits-register _ _ _ _), c .before .before .before .before .before .before .before .before .before .before .before .before .pre .3)
 
 same-length : tie.Need-same-length
 same-length c = search needs
 
-returns-2 : tie.Need-returns-2
-returns-2 c =
-    let a = c .before .before .before .before .before .before .before .before .before .before .args in
-    rw (sym (c .before .before .before .before .before .before .before .before .is-free-for .ensures) ∙ c .before .before .before .before .before .before .before .if1 .left)
-    (retell (found-told (sievedFor (a .i .mode) (a .counts .now)) (register (a .counts .now) (a .self) (a .t) (a .i)) _ (c .before .before .before .before .before .before .register-wait .ensures .0)) (c .before .before .sieved .ensures))
+returns-3 : tie.Need-returns-3
+returns-3 c =
+    let r = c .before .before .before .before .before .before .before .before .before .before .before in
+    let a = r .before .before .before .before .args in
+    let f = c .before .before .before .before .before in
+    retell (attempt-told _ (a .self) (a .t) (a .i) _ (r .register-wait .ensures .0) (sym (r .before .before .is-free-for .ensures) ∙ r .before .if1 .left))
+    (rw (f .before .enum-told .given .1, sym (f .passes-for .ensures) ∙ c .before .before .before .before .if2 .taken) (c .before .before .validated-deadlock-info .ensures))
+
+quiet-requires-3 : tie.Need-quiet-requires-3
+quiet-requires-3 c κs = search needs
+
+returns-4 : tie.Need-returns-4
+returns-4 c =
+    let r = c .before .before .before .before .before .before .before .before in
+    let a = r .before .before .before .before .args in
+    let f = c .before .before in
+    retell (attempt-told _ (a .self) (a .t) (a .i) _ (r .register-wait .ensures .0) (sym (r .before .before .is-free-for .ensures) ∙ r .before .if1 .left))
+    (rw (f .before .enum-told .given .1, sym (f .passes-for .ensures) ∙ c .before .if2 .left) (hush-tells _ _ _ _ (c .quiet3 .ensures) (r .register-wait .ensures .1)))
 
 pub attempt-spec : {M : Type 1} → statement M
 attempt-spec =
@@ -42,6 +72,13 @@ attempt-spec =
     quiet-requires
     returns
     register-wait-requires
-    sieved-requires
+    enum-told
+    enum-told-2
+    quiet-requires-2
+    returns-2
+    passes-for-requires
+    validated-deadlock-info-requires
     same-length
-    returns-2)
+    returns-3
+    quiet-requires-3
+    returns-4)

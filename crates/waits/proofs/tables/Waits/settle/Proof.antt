@@ -1,6 +1,9 @@
-use Rattle.waits.proofs.Telling.{retell, settle-told}
-use Rattle.waits.proofs.Laws.{fits-refresh}
+use Rattle.waits.proofs.Telling.{retell, settle-told, refresh-graph}
+use Rattle.waits.proofs.Laws.{range-refresh, fits-refreshed}
+use Rattle.waits.specs.Tables.{InRange}
+use Rattle.waits.specs.declared.tables.Waits.{Waits}
 use borrow.Author.Needs.{needs}
+use mathlib.Core.Path.{sym, subst}
 use Rattle.waits.proofs.tables.Waits.settle.Statement.{statement}
 use Rattle.waits.proofs.tables.Waits.settle.Tie as tie
 
@@ -9,16 +12,21 @@ refresh-waiters-for-lock-requires c κs = search needs
 
 judged-requires : tie.Need-judged-requires
 judged-requires c κs =
-    let r = c .before .before .before .refresh-waiters-for-lock .ensures in
-    (r .1, rw (r .0) (fits-refresh _ _ _), c .before .before .before .before .before .pre .2)
+    let s = c .before .before .before .before .before in
+    let a = s .args in
+    let k = c .before .before .before .refresh-waiters-for-lock .ensures in (
+      subst (λ (w : Waits). InRange w) (sym (refresh-graph _ (a .self) (a .l) _ k)) (range-refresh _ _ _ (s .pre .0)),
+      rw k (fits-refreshed _ _ _),
+      s .pre .2,
+    )
 
 same-length : tie.Need-same-length
 same-length c = search needs
 
 returns : tie.Need-returns
 returns c =
-    let s = c .before .before .before .before .before .before .before .before in
-    retell (settle-told _ (s .args .self) (s .args .l) _ (c .before .before .before .before .before .before .refresh-waiters-for-lock .ensures .0)) (c .before .before .judged .ensures)
+    let a = c .before .before .before .before .before .before .before .before .args in
+    retell (settle-told _ (a .self) (a .l) _ (c .before .before .before .before .before .before .refresh-waiters-for-lock .ensures)) (c .before .before .judged .ensures)
 
 pub settle-spec : {M : Type 1} → statement M
 settle-spec =
