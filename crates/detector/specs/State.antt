@@ -14,6 +14,7 @@ use Rattle.detector.specs.Tables.{Tables, Answer, noPair, blankWait}
 use Rattle.detector.specs.Events.{apply}
 use Rattle.detector.specs.Refusals.{refusal}
 use Rattle.detector.specs.Condvar.{Woken}
+use Rattle.detector.specs.Stuck.{stuckCount}
 use Rattle.detector.specs.declared.event.Event.{Event}
 use Rattle.detector.specs.declared.state.Detector.{Detector}
 use Rattle.detector.specs.declared.state.Queue.{Queue}
@@ -22,6 +23,9 @@ use Rattle.detector.specs.declared.state.CvWait.{CvWait}
 use Rattle.detector.specs.declared.condvar.Awake.{Awake}
 use Rattle.detector.specs.declared.reply.Done.{Done}
 use Rattle.detector.specs.declared.reply.Answered.{Answered}
+use Rattle.detector.specs.declared.reply.Count.{Count}
+use Rattle.detector.specs.declared.reply.Count.the-variants as count
+use Rattle.detector.specs.declared.reply.Count.the-variants.{Threads}
 use Rattle.detector.specs.declared.reply.Reply.{Reply}
 use Rattle.detector.specs.declared.reply.Reply.the-variants.{Reports, Refused}
 
@@ -107,6 +111,10 @@ pub record Wakes (r : Awake) (b e : List ℕ) (s : Woken) : Type 0 where
 -- REFUSALS 2 to 8 of a step, lowest first; 0 for none
 unfoldable pub refusalOf : Detector → ℕ → Event → ℕ
 refusalOf d room e = cond (validTest d) (refusal (tables d) room e) 2
+
+-- the stuck threads of any state, or refusal 2
+abbrev pub stuckOf : Detector → Count
+stuckOf d = cond (validTest d) (Threads (stuckCount (tables d))) (count.Refused 2)
 
 -- a reply's case: document 01's refusal number, 0 where it is served; and the number of reports
 abbrev pub refusedBy : Reply → ℕ

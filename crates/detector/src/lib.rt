@@ -12,6 +12,7 @@ mod valid;
 
 pub use event::Event;
 pub use reply::Answered;
+pub use reply::Count;
 pub use reply::Done;
 pub use reply::Reply;
 pub use state::CvWait;

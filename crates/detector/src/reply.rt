@@ -12,6 +12,12 @@ pub enum Reply {
     Refused(u8),
 }
 
+// A number of threads, where the state is valid.
+pub enum Count {
+    Threads(usize),
+    Refused(u8),
+}
+
 // The state after a step, and the answer to it.
 pub struct Answered {
     pub detector: Detector,

@@ -7,8 +7,9 @@ ghost use Rattle.sets.specs.Below.{those};
 ghost use Rattle.graph.specs.Search.{findPath};
 ghost use Rattle.waits.specs.Tables.{InRange, intentOf};
 ghost use Rattle.waits.specs.Owners.{blocking};
-ghost use Rattle.detector.specs.State.{tables, Valid};
+ghost use Rattle.detector.specs.State.{tables, Valid, stuckOf};
 ghost use Rattle.detector.specs.Stuck.{maskOf, trueWaits, found, anyBack, stuckIn, stuckCount, edgeCount};
+use crate::reply::Count;
 use crate::state::Detector;
 use graph::Answer;
 use graph::find_path;
@@ -120,13 +121,24 @@ impl Detector {
         rows_of(w, &counts)
     }
 
-    // How many threads are stuck.
-    pub fn stuck(self) -> usize
+    // How many threads are stuck, in a state that is known to be valid.
+    pub fn stuck_within(self) -> usize
         requires { ⌜ Valid self ⌝ }
         ensures { λ r. ⌜ r ≡ stuckCount (tables self) ⌝ }
     {
         let rows = self.true_waits();
         count_stuck(rows)
+    }
+
+    // The same for any state: it is looked through first.
+    pub fn stuck(self) -> Count
+        ensures { λ r. ⌜ r ≡ stuckOf self ⌝ }
+    {
+        if self.is_valid() {
+            let n = self.stuck_within();
+            return Count::Threads(n);
+        }
+        Count::Refused(2)
     }
 
     // How many edges are stored.

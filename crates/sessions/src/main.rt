@@ -83,7 +83,7 @@ fn sums(d: Detector) {
     say_number(d.edges_stored());
     if d.is_valid() {
         say(b" stuck ");
-        say_number(d.stuck());
+        say_number(d.stuck_within());
     }
     say(b"\n");
 }

@@ -19,7 +19,7 @@ pub fn put_sums(detector: Detector, lines: usize, out: &mut [u8], at: usize) -> 
     ensures { λ r. ⌜ Put (now (out .entry)) at (lastText (record { lines = lines; tables = tables detector })) (now (out .exit)) r × (r ≤ at + endRoom) ⌝ }
 {
     let edges = detector.edges_stored();
-    let stuck = detector.stuck();
+    let stuck = detector.stuck_within();
     put_end(out, at, lines, edges, stuck)
 }
 

@@ -23,8 +23,8 @@ slice-aggregate-say-2 c = search needs
 say-requires-2 : tie.Need-say-requires-2
 say-requires-2 c κs = search needs
 
-stuck-requires : tie.Need-stuck-requires
-stuck-requires c κs = c .before .before .before .is-valid .ensures .1 (c .before .before .if1 .taken)
+stuck-within-requires : tie.Need-stuck-within-requires
+stuck-within-requires c κs = c .before .before .before .is-valid .ensures .1 (c .before .before .if1 .taken)
 
 say-number-requires-2 : tie.Need-say-number-requires-2
 say-number-requires-2 c κs = search needs
@@ -49,7 +49,7 @@ sums-spec =
     is-valid-requires
     slice-aggregate-say-2
     say-requires-2
-    stuck-requires
+    stuck-within-requires
     say-number-requires-2
     slice-aggregate-say-3
     say-requires-3

@@ -10,14 +10,14 @@ use Rattle.transcript.proofs.ending.put_sums.Tie as tie
 edges-stored-requires : tie.Need-edges-stored-requires
 edges-stored-requires c κs = search needs
 
-stuck-requires : tie.Need-stuck-requires
-stuck-requires c κs = search needs
+stuck-within-requires : tie.Need-stuck-within-requires
+stuck-within-requires c κs = search needs
 
 put-end-requires : tie.Need-put-end-requires
 put-end-requires c κs =
     let s = c .before .before .before .before in
     let e : c .before .before .edges-stored .result < 2 ^ 64 = search needs in
-    let k : c .before .stuck .result < 2 ^ 64 = search needs in
+    let k : c .before .stuck-within .result < 2 ^ 64 = search needs in
     end-room _ _ _ _ _ (omega (arith, s .pre .1)) e k (s .pre .2)
 
 same-length : tie.Need-same-length
@@ -28,7 +28,7 @@ returns c =
     let s = c .before .before .before .before .before .before .before in
     let p = c .before .before .put-end .ensures in
     let d = c .before .before .before .before .before .edges-stored in
-    let t = c .before .before .before .before .stuck in
+    let t = c .before .before .before .before .stuck-within in
     let e : d .result < 2 ^ 64 = search needs in
     let k : t .result < 2 ^ 64 = search needs in
     let w = end-bound (s .args .lines) (d .result) (t .result) (omega (arith, s .pre .1)) e k in
@@ -36,4 +36,4 @@ returns c =
 
 pub put-sums-spec : {M : Type 1} → statement M
 put-sums-spec =
-    tie.close (tie.spec edges-stored-requires stuck-requires put-end-requires same-length returns)
+    tie.close (tie.spec edges-stored-requires stuck-within-requires put-end-requires same-length returns)

@@ -1,17 +1,19 @@
-use Rattle.detector.specs.Stuck.{stuckCount}
 use borrow.Author.Needs.{needs}
+use mathlib.Core.Path.{sym, _∙_}
 use Rattle.detector.proofs.state.Detector.stuck.Statement.{statement}
 use Rattle.detector.proofs.state.Detector.stuck.Tie as tie
 
-true-waits-requires : tie.Need-true-waits-requires
-true-waits-requires c κs = search needs
+is-valid-requires : tie.Need-is-valid-requires
+is-valid-requires c κs = search needs
 
-count-stuck-requires : tie.Need-count-stuck-requires
-count-stuck-requires c κs = search needs
+stuck-within-requires : tie.Need-stuck-within-requires
+stuck-within-requires c κs = c .before .is-valid .ensures .1 (c .if1 .taken)
 
 returns : tie.Need-returns
-unfolding stuckCount
-returns c = rw (← c .before .true-waits .ensures) (c .count-stuck .ensures)
+returns c = rw (sym (c .before .before .is-valid .ensures .0) ∙ c .before .if1 .taken, c .stuck-within .ensures)
+
+returns-2 : tie.Need-returns-2
+returns-2 c = rw (sym (c .before .is-valid .ensures .0) ∙ c .if1 .left)
 
 pub stuck-spec : {M : Type 1} → statement M
-stuck-spec = tie.close (tie.spec true-waits-requires count-stuck-requires returns)
+stuck-spec = tie.close (tie.spec is-valid-requires stuck-within-requires returns returns-2)
