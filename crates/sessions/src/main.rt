@@ -1,6 +1,7 @@
 // Document 01's worked sessions and limit cases, through the public entry. A line for each event: `ok` and the number of
 // reports, or `no` and the refusal; then the bytes of the first report.
 ghost use Prim.Native.Nat.{_<_};
+use detector::Count;
 use detector::Detector;
 use detector::Event;
 use detector::Reply;
@@ -81,9 +82,10 @@ fn p1() {
 fn sums(d: Detector) {
     say(b"edges ");
     say_number(d.edges_stored());
-    if d.is_valid() {
+    let c = d.stuck();
+    if let Count::Threads(n) = c {
         say(b" stuck ");
-        say_number(d.stuck_within());
+        say_number(n);
     }
     say(b"\n");
 }
