@@ -6,7 +6,8 @@ use native.Mathlib.Omega.{arith}
 use lib.ListN.{length, drop, getD, length-append}
 use lib.Seq.{getD-drop}
 use Rattle.answers.specs.Text.{text, decimal, withTab, tabbed, Room}
-use Rattle.answers.specs.Reports.{Entry, entrySize, entryIn, entriesIn, reportIn, reportSize, reportsIn, reportsSize}
+use Rattle.waits.specs.Report.{entryBytes}
+use Rattle.answers.specs.Reports.{Entry, entryIn, entriesIn, reportIn, reportSize, reportsIn, reportsSize}
 use Rattle.answers.specs.Answers.{number, reports, replyText, itemText, itemsText, cycleText, cyclesText, answerText, endText, itemRoom, answerRoom, endRoom}
 use Rattle.answers.proofs.Digits.{decimal-short}
 use Rattle.answers.proofs.Items.{reply-parts, end-parts, cycle-parts, item-parts, report-at}
@@ -53,8 +54,8 @@ items-bound : (n : ℕ) (b : List ℕ) → Bytes b → length (itemsText (entrie
 unfolding entriesIn tabbed
 items-bound zero b h = omega arith
 items-bound (suc n) b h =
-    let r : length (itemsText (entriesIn n (drop entrySize b))) ≤ itemRoom * n = items-bound n (drop entrySize b) (bytes-drop b entrySize h) in
-    omega (arith, item-bound b h, length-append (withTab (itemText (entryIn b))) (itemsText (entriesIn n (drop entrySize b))))
+    let r : length (itemsText (entriesIn n (drop entryBytes b))) ≤ itemRoom * n = items-bound n (drop entryBytes b) (bytes-drop b entryBytes h) in
+    omega (arith, item-bound b h, length-append (withTab (itemText (entryIn b))) (itemsText (entriesIn n (drop entryBytes b))))
 
 -- four bytes of text for a byte of the buffer, and two more for a report
 pub cycles-bound : (r : ℕ) (b : List ℕ) → Bytes b → length (cyclesText (reportsIn r b)) ≤ 4 * reportsSize r b + 2 * r

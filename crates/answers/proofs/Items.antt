@@ -7,7 +7,8 @@ use native.Mathlib.Nat.{add-zero}
 use lib.ListN.{drop, getD}
 use lib.Seq.{getD-drop, drop-drop}
 use Rattle.answers.specs.Text.{text, decimal, withTab, tabbed, line}
-use Rattle.answers.specs.Reports.{Entry, entrySize, entryIn, entriesIn, reportIn, reportSize, reportsIn, reportsSize}
+use Rattle.waits.specs.Report.{entryBytes}
+use Rattle.answers.specs.Reports.{Entry, entryIn, entriesIn, reportIn, reportSize, reportsIn, reportsSize}
 use Rattle.answers.specs.Answers.{verdict, number, replyText, itemText, itemsText, cycleText, cyclesText, answerText, endText}
 use Rattle.detector.specs.declared.reply.Reply.{Reply}
 use Rattle.detector.specs.declared.reply.Reply.the-variants.{Reports, Refused}
@@ -46,7 +47,7 @@ pub item-parts : (b : List ℕ) (p t l : ℕ) → t ≡ getD b p 0 → l ≡ get
 unfolding itemText
 item-parts b p t l e f = simp (getD-drop, add-zero, ← e, ← f) (ap (λ (x : List ℕ). withTab x) (append-assoc (decimal t) (text ":") (decimal l)))
 
-pub items-more : (n p : ℕ) (b : List ℕ) → 0 < n → itemsText (entriesIn n (drop p b)) ≡ withTab (itemText (entryIn (drop p b))) ++ itemsText (entriesIn (n - 1) (drop (p + entrySize) b))
+pub items-more : (n p : ℕ) (b : List ℕ) → 0 < n → itemsText (entriesIn n (drop p b)) ≡ withTab (itemText (entryIn (drop p b))) ++ itemsText (entriesIn (n - 1) (drop (p + entryBytes) b))
 unfolding entriesIn tabbed
 items-more zero p b h = absurd (omega arith)
 items-more (suc n) p b h = simp (drop-drop, suc-sub-one)
@@ -64,19 +65,19 @@ unfolding reportsIn cyclesText
 cycles-none zero b h = refl
 cycles-none (suc n) b h = absurd (omega arith)
 
-next-report : (b : List ℕ) (p m : ℕ) → m ≡ getD b p 0 → p + reportSize (drop p b) ≡ p + 1 + entrySize * m
+next-report : (b : List ℕ) (p m : ℕ) → m ≡ getD b p 0 → p + reportSize (drop p b) ≡ p + 1 + entryBytes * m
 next-report b p m e = simp (getD-drop, add-zero, ← e) (omega arith)
 
-pub cycles-more : (n p m : ℕ) (b : List ℕ) → 0 < n → m ≡ getD b p 0 → cyclesText (reportsIn n (drop p b)) ≡ cycleText (reportIn (drop p b)) ++ cyclesText (reportsIn (n - 1) (drop (p + 1 + entrySize * m) b))
+pub cycles-more : (n p m : ℕ) (b : List ℕ) → 0 < n → m ≡ getD b p 0 → cyclesText (reportsIn n (drop p b)) ≡ cycleText (reportIn (drop p b)) ++ cyclesText (reportsIn (n - 1) (drop (p + 1 + entryBytes * m) b))
 unfolding reportsIn cyclesText
 cycles-more zero p m b h e = absurd (omega arith)
 cycles-more (suc n) p m b h e = rw (drop-drop (reportSize (drop p b)) p b, next-report b p m e, suc-sub-one)
 
-pub size-more : (n p m : ℕ) (b : List ℕ) → 0 < n → m ≡ getD b p 0 → reportsSize n (drop p b) ≡ 1 + entrySize * m + reportsSize (n - 1) (drop (p + 1 + entrySize * m) b)
+pub size-more : (n p m : ℕ) (b : List ℕ) → 0 < n → m ≡ getD b p 0 → reportsSize n (drop p b) ≡ 1 + entryBytes * m + reportsSize (n - 1) (drop (p + 1 + entryBytes * m) b)
 unfolding reportsSize
 size-more zero p m b h e = absurd (omega arith)
 size-more (suc n) p m b h e =
-    let s : reportSize (drop p b) ≡ 1 + entrySize * m = simp (getD-drop, add-zero, ← e) in
+    let s : reportSize (drop p b) ≡ 1 + entryBytes * m = simp (getD-drop, add-zero, ← e) in
     rw (drop-drop (reportSize (drop p b)) p b, next-report b p m e, suc-sub-one) (omega arith)
 
 -- ---- an answer

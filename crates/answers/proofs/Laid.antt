@@ -6,9 +6,10 @@ use native.Mathlib.Omega.{arith}
 use native.Mathlib.Numerals.{one-add}
 use lib.ListN.{length, drop, length-append}
 use lib.Seq.{drop-at}
-use Rattle.answers.specs.Reports.{Entry, entrySize, entriesIn, reportsIn, reportsSize, entriesBytes, reportsBytes}
+use Rattle.waits.specs.Report.{entryBytes}
+use Rattle.answers.specs.Reports.{Entry, entriesIn, reportsIn, reportsSize, entriesBytes, reportsBytes}
 
-entries-size : (es : List Entry) → length (entriesBytes es) ≡ entrySize * length es
+entries-size : (es : List Entry) → length (entriesBytes es) ≡ entryBytes * length es
 unfolding entriesBytes
 entries-size [] = omega arith
 entries-size (e ∷ es) = omega (arith, entries-size es)
@@ -19,7 +20,7 @@ entries-read [] rest = refl
 entries-read (e ∷ es) rest = ap (λ (x : List Entry). e ∷ x) (entries-read es rest)
 
 -- what stands behind the first report
-behind : (es : List Entry) (rest : List ℕ) → drop (1 + entrySize * length es) (length es ∷ (entriesBytes es ++ rest)) ≡ rest
+behind : (es : List Entry) (rest : List ℕ) → drop (1 + entryBytes * length es) (length es ∷ (entriesBytes es ++ rest)) ≡ rest
 behind es rest = rw (one-add, ← entries-size es) (drop-at (entriesBytes es) rest (length (entriesBytes es)) refl)
 
 pub reports-read : (rs : List (List Entry)) (rest : List ℕ) → reportsIn (length rs) (reportsBytes rs ++ rest) ≡ rs

@@ -2,18 +2,16 @@
 use Prim.Native.Nat.{ℕ, zero, suc, _+_, _*_}
 use mathlib.Core.List.{List, [], _∷_, _++_}
 use lib.ListN.{length, drop, getD}
+use Rattle.waits.specs.Report.{entryBytes}
 
 -- a thread of a cycle, and the lock that it awaits
 pub record Entry : Type 0 where
   pub thread : ℕ
   pub lock : ℕ
 
--- the bytes of an entry, and how many they are
-abbrev pub entryBytes : Entry → List ℕ
-entryBytes e = e .thread ∷ e .lock ∷ []
-
-abbrev pub entrySize : ℕ
-entrySize = 2
+-- the bytes of an entry, as many as `waits` says
+abbrev pub entryText : Entry → List ℕ
+entryText e = e .thread ∷ e .lock ∷ []
 
 -- the entry that b starts with
 abbrev pub entryIn : List ℕ → Entry
@@ -22,14 +20,14 @@ entryIn b = record { thread = getD b 0 0; lock = getD b 1 0 }
 -- n entries, one after another
 unfoldable pub entriesIn : ℕ → List ℕ → List Entry
 entriesIn zero b = []
-entriesIn (suc n) b = entryIn b ∷ entriesIn n (drop entrySize b)
+entriesIn (suc n) b = entryIn b ∷ entriesIn n (drop entryBytes b)
 
 -- the report that b starts with, and the bytes that it takes
 abbrev pub reportIn : List ℕ → List Entry
 reportIn b = entriesIn (getD b 0 0) (drop 1 b)
 
 abbrev pub reportSize : List ℕ → ℕ
-reportSize b = 1 + entrySize * getD b 0 0
+reportSize b = 1 + entryBytes * getD b 0 0
 
 -- r reports, one after another, and the bytes that they take
 unfoldable pub reportsIn : ℕ → List ℕ → List (List Entry)
@@ -43,7 +41,7 @@ reportsSize (suc r) b = reportSize b + reportsSize r (drop (reportSize b) b)
 -- the other way: the bytes of a report, and of reports
 unfoldable pub entriesBytes : List Entry → List ℕ
 entriesBytes [] = []
-entriesBytes (e ∷ es) = entryBytes e ++ entriesBytes es
+entriesBytes (e ∷ es) = entryText e ++ entriesBytes es
 
 unfoldable pub reportsBytes : List (List Entry) → List ℕ
 reportsBytes [] = []

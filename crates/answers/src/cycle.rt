@@ -4,19 +4,18 @@ use crate::number::put_number;
 use crate::number::wide;
 use crate::put::put_byte;
 use crate::put::put_bytes;
+use waits::Waits;
 ghost use mathlib.Core.Path.{_≡_};
 ghost use Prim.Native.Nat.{_+_, _*_, _≤_};
 ghost use lib.ListN.{length, drop, getD};
 ghost use Rattle.answers.specs.Text.{withTab, Room, Put};
-ghost use Rattle.answers.specs.Reports.{entrySize, entryIn, entriesIn, reportIn, reportsIn};
+ghost use Rattle.waits.specs.Report.{entryBytes};
+ghost use Rattle.answers.specs.Reports.{entryIn, entriesIn, reportIn, reportsIn};
 ghost use Rattle.answers.specs.Answers.{itemText, itemsText, cycleText, cyclesText, Held};
-
-// The bytes of an entry: a thread, and the lock that it awaits.
-const ENTRY: usize = 2;
 
 // A tab and the item of the entry at from.
 fn put_item(out: &mut [u8], at: usize, buf: &[u8], from: usize) -> usize
-    requires { ⌜ from + entrySize ≤ length (now buf) ⌝ }
+    requires { ⌜ from + entryBytes ≤ length (now buf) ⌝ }
     requires { ⌜ Room (now out) at (withTab (itemText (entryIn (drop from (now buf))))) ⌝ }
     ensures { λ r. ⌜ Put (now (out .entry)) at (withTab (itemText (entryIn (drop from (now (buf .entry)))))) (now (out .exit)) r ⌝ }
 {
@@ -27,7 +26,7 @@ fn put_item(out: &mut [u8], at: usize, buf: &[u8], from: usize) -> usize
 
 // The items of n entries, the first of them at from.
 fn put_items(out: &mut [u8], at: usize, buf: &[u8], from: usize, n: usize) -> usize
-    requires { ⌜ from + entrySize * n ≤ length (now buf) ⌝ }
+    requires { ⌜ from + entryBytes * n ≤ length (now buf) ⌝ }
     requires { ⌜ Room (now out) at (itemsText (entriesIn n (drop from (now buf)))) ⌝ }
     ensures { λ r. ⌜ Put (now (out .entry)) at (itemsText (entriesIn n (drop from (now (buf .entry))))) (now (out .exit)) r ⌝ }
 {
@@ -36,7 +35,7 @@ fn put_items(out: &mut [u8], at: usize, buf: &[u8], from: usize, n: usize) -> us
     let mut p = from;
     while left > 0 {
         to = put_item(out, to, buf, p);
-        p = p + ENTRY;
+        p = p + Waits::ENTRY;
         left = left - 1;
     }
     to
@@ -44,7 +43,7 @@ fn put_items(out: &mut [u8], at: usize, buf: &[u8], from: usize, n: usize) -> us
 
 // The line of the report at from, which has n entries.
 fn put_cycle(out: &mut [u8], at: usize, buf: &[u8], from: usize, n: usize) -> usize
-    requires { ⌜ (n ≡ getD (now buf) from 0) × (from + 1 + entrySize * n ≤ length (now buf)) ⌝ }
+    requires { ⌜ (n ≡ getD (now buf) from 0) × (from + 1 + entryBytes * n ≤ length (now buf)) ⌝ }
     requires { ⌜ Room (now out) at (cycleText (reportIn (drop from (now buf)))) ⌝ }
     ensures { λ r. ⌜ Put (now (out .entry)) at (cycleText (reportIn (drop from (now (buf .entry))))) (now (out .exit)) r ⌝ }
 {
@@ -65,7 +64,7 @@ pub(crate) fn put_cycles(out: &mut [u8], at: usize, buf: &[u8], reports: usize) 
     while left > 0 {
         let n = wide(buf[p]);
         to = put_cycle(out, to, buf, p, n);
-        p = p + 1 + ENTRY * n;
+        p = p + 1 + Waits::ENTRY * n;
         left = left - 1;
     }
     to

@@ -19,7 +19,7 @@ use Rattle.detector.specs.Mutex.{completeAcquire, acquireSlow, releaseMutex, de
 use Rattle.detector.specs.RwLock.{completeRead, acquireRead, tryRead, releaseRead, completeWrite, acquireWrite, releaseWrite, destroyRwLock}
 use Rattle.detector.specs.Condvar.{createCondvar, destroyCondvar, beginWait, Woken, attempted, wake, wakeAll, notifyFirst, notifyOne, notifyAll, endWait}
 use Rattle.detector.specs.Events.{apply}
-use Rattle.detector.specs.Refusals.{Inside, numbersOf, full, refusal}
+use Rattle.detector.specs.Refusals.{Inside, numbersOf, full, refusal, reportRoom}
 use Rattle.detector.specs.declared.event.Event.{Event}
 use Rattle.detector.specs.declared.event.Event.the-variants.{MutexAttempt, MutexAcquired, MutexReleased, MutexExit, RwReadAttempt, RwReadAcquired, RwReadTry, RwReadReleased, RwWriteAttempt, RwWriteAcquired, RwWriteReleased, RwExit, CondvarSpawn, CondvarExit, CondvarWaitBegin, CondvarNotifyOne, CondvarNotifyAll, CondvarWaitEnd}
 use Rattle.detector.specs.declared.state.Pair.{Pair}
@@ -33,12 +33,12 @@ use Rattle.demands.proofs.Reports.{each-map, each-append, bytes-spelled
 
 -- ---- an accepted event is accepted with room for all reports as well
 
-pub accepted-full : (x : Tables) (room : ℕ) (e : Event) → refusal x room e ≡ 0 → refusal x 2080 e ≡ 0
+pub accepted-full : (x : Tables) (room : ℕ) (e : Event) → refusal x room e ≡ 0 → refusal x reportRoom e ≡ 0
 unfolding refusal
 accepted-full x room e h =
     let a = accepted x room e h in
     let i = a .inside in
-    inside-next (numbersOf e) 2080 (full x e) (record { thread = i .thread; hint = i .hint; lock = i .lock; condvar = i .condvar; room = lit≤ tt }) ∙ a .notFull
+    inside-next (numbersOf e) reportRoom (full x e) (record { thread = i .thread; hint = i .hint; lock = i .lock; condvar = i .condvar; room = lit≤ tt }) ∙ a .notFull
 
 -- ---- what an event is heard to do
 

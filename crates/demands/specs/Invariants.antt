@@ -12,6 +12,7 @@ use Rattle.waits.specs.Report.{written}
 use Rattle.waits.specs.Validate.{names}
 use Rattle.waits.specs.declared.tables.Waits.{Waits}
 use Rattle.waits.specs.declared.intent.Slot.{Slot}
+use Rattle.detector.specs.Refusals.{reportRoom}
 use Rattle.detector.specs.Tables.{Tables, blankWait, queueOf}
 use Rattle.detector.specs.State.{Waiting}
 use Rattle.detector.specs.declared.event.Event.{Event}
@@ -91,4 +92,4 @@ ReachedFew = (x : Tables) (room : ℕ) (e : Event) → Reached x → length (ans
 
 -- 2,080 bytes always suffice
 abbrev pub ReachedRoom : Type 0
-ReachedRoom = (x : Tables) (room : ℕ) (e : Event) → Reached x → length (written (answer x room e .reports)) ≤ 2080
+ReachedRoom = (x : Tables) (room : ℕ) (e : Event) → Reached x → length (written (answer x room e .reports)) ≤ reportRoom

@@ -6,7 +6,7 @@ use Prim.Native.Nat.{ℕ}
 use lib.Dec.{eqb}
 use Rattle.detector.specs.Tables.{Tables, Answer, silent, empty}
 use Rattle.detector.specs.Events.{apply}
-use Rattle.detector.specs.Refusals.{refusal}
+use Rattle.detector.specs.Refusals.{refusal, reportRoom}
 use Rattle.detector.specs.declared.event.Event.{Event}
 
 -- one event in tables x, with room bytes for its reports: refused, and the tables stay as they are; or its rule's answer
@@ -15,7 +15,7 @@ answer x room e = cond (eqb (refusal x room e) 0) (apply e x) (silent x)
 
 -- room for every report
 abbrev pub room : ℕ
-room = 2080
+room = reportRoom
 
 -- the tables after the events
 unfoldable pub after : Tables → List Event → Tables

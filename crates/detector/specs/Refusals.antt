@@ -47,6 +47,10 @@ numbersOf (CondvarNotifyOne c) = numbers 0 0 0 c
 numbersOf (CondvarNotifyAll c) = numbers 0 0 0 c
 numbersOf (CondvarWaitEnd t c l) = numbers t 0 l c
 
+-- room for 32 reports of 65 bytes
+abbrev pub reportRoom : ℕ
+reportRoom = 2080
+
 -- 3 thread or hint above 31; 4 lock above 63; 5 condvar above 15; 6 report buffer below 2,080 bytes; else the next
 unfoldable pub outside : Numbers → ℕ → ℕ → ℕ
 outside n room next =
@@ -54,7 +58,7 @@ outside n room next =
     (cond (ltb 31 (n .hint)) 3
     (cond (ltb 63 (n .lock)) 4
     (cond (ltb 15 (n .condvar)) 5
-    (cond (ltb room 2080) 6 next))))
+    (cond (ltb room reportRoom) 6 next))))
 
 -- 7 cb on a queue of 32; 8 ra, rc or rt taken at count 255
 abbrev pub fullQueue : Tables → ℕ → ℕ
@@ -101,4 +105,4 @@ pub record Inside (n : Numbers) (size : ℕ) : Type 0 where
   pub hint : n .hint < 32
   pub lock : n .lock < 64
   pub condvar : n .condvar < 16
-  pub room : 2080 ≤ size
+  pub room : reportRoom ≤ size

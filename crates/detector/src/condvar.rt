@@ -7,6 +7,7 @@ ghost use Rattle.waits.specs.Tables.{InRange};
 ghost use Rattle.waits.specs.Report.{reportBytes};
 ghost use Rattle.detector.specs.Tables.{noPair};
 ghost use Rattle.detector.specs.Condvar.{Woken, isPair, wake, wakeAll, forget, leave, createCondvar, destroyCondvar, beginWait, notifyOne, notifyAll, endWait};
+ghost use Rattle.detector.specs.Refusals.{reportRoom};
 ghost use Rattle.detector.specs.State.{pairsOf, tables, blankQueue, Queued, Valid, Does, Wakes};
 ghost use Rattle.detector.specs.Code.{tailOf, emptyQueue};
 use crate::reply::Done;
@@ -64,7 +65,7 @@ fn wake_one(a: Awake, counts: &[u8; 2048], p: Pair, buf: &mut [u8]) -> Awake
 }
 
 fn wake_all(a0: Awake, counts: &[u8; 2048], q: Queue, buf: &mut [u8]) -> Awake
-    requires { ⌜ InRange (a0 .waits) × Queued q × (a0 .used ≡ 0) × (a0 .reports ≡ 0) × (2080 ≤ length (now buf)) ⌝ }
+    requires { ⌜ InRange (a0 .waits) × Queued q × (a0 .used ≡ 0) × (a0 .reports ≡ 0) × (reportRoom ≤ length (now buf)) ⌝ }
     ensures { λ r. ⌜ ((s : Woken) → Wakes a0 (now (buf .entry)) (now (buf .entry)) s → Wakes r (now (buf .entry)) (now (buf .exit)) (wakeAll (now (counts .entry)) s (pairsOf q))) ⌝ }
 {
     let n = q.len as usize;
@@ -204,7 +205,7 @@ impl Detector {
 
     // c1
     pub fn notify_one(mut self, c: usize, buf: &mut [u8]) -> Done
-        requires { ⌜ Valid self × (c < 16) × (2080 ≤ length (now buf)) ⌝ }
+        requires { ⌜ Valid self × (c < 16) × (reportRoom ≤ length (now buf)) ⌝ }
         ensures { λ r. ⌜ Does r (now (buf .entry)) (now (buf .exit)) (notifyOne (tables self) c) ⌝ }
     {
         let mut rest = self.rest;
@@ -239,7 +240,7 @@ impl Detector {
 
     // ca
     pub fn notify_all(mut self, c: usize, buf: &mut [u8]) -> Done
-        requires { ⌜ Valid self × (c < 16) × (2080 ≤ length (now buf)) ⌝ }
+        requires { ⌜ Valid self × (c < 16) × (reportRoom ≤ length (now buf)) ⌝ }
         ensures { λ r. ⌜ Does r (now (buf .entry)) (now (buf .exit)) (notifyAll (tables self) c) ⌝ }
     {
         let mut rest = self.rest;

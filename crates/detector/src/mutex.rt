@@ -8,7 +8,7 @@ ghost use Rattle.waits.specs.Report.{reportBytes};
 ghost use Rattle.waits.specs.Validate.{names};
 ghost use Rattle.waits.specs.Code.{Tells};
 ghost use Rattle.detector.specs.Mutex.{acquired, released, clearNaming, purge, mutexAttempt, completeAcquire, releaseMutex, destroyMutex};
-ghost use Rattle.detector.specs.Refusals.{hintOf};
+ghost use Rattle.detector.specs.Refusals.{hintOf, reportRoom};
 ghost use Rattle.detector.specs.State.{tables, Valid, Does};
 ghost use Rattle.detector.specs.Code.{triedMutex, mustLook, lookedMutex};
 use crate::reply::Done;
@@ -122,7 +122,7 @@ pub(crate) fn purged(w0: Waits, l: usize) -> Waits
 impl Detector {
     // ma
     pub fn acquire_slow_with_recheck(self, t: usize, l: usize, o: Outcome, buf: &mut [u8]) -> Done
-        requires { ⌜ Valid self × (t < 32) × (l < 64) × (hintOf o < 32) × (2080 ≤ length (now buf)) ⌝ }
+        requires { ⌜ Valid self × (t < 32) × (l < 64) × (hintOf o < 32) × (reportRoom ≤ length (now buf)) ⌝ }
         ensures { λ r. ⌜ Does r (now (buf .entry)) (now (buf .exit)) (mutexAttempt (tables self) t l o) ⌝ }
     {
         let w0 = self.waits;
@@ -140,7 +140,7 @@ impl Detector {
 
     // mc
     pub fn complete_acquire(self, t: usize, l: usize, buf: &mut [u8]) -> Done
-        requires { ⌜ Valid self × (t < 32) × (l < 64) × (2080 ≤ length (now buf)) ⌝ }
+        requires { ⌜ Valid self × (t < 32) × (l < 64) × (reportRoom ≤ length (now buf)) ⌝ }
         ensures { λ r. ⌜ Does r (now (buf .entry)) (now (buf .exit)) (completeAcquire (tables self) t l) ⌝ }
     {
         let w0 = self.waits;

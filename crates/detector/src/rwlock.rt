@@ -8,7 +8,7 @@ ghost use Rattle.waits.specs.Owners.{countOf};
 ghost use Rattle.waits.specs.Report.{reportBytes};
 ghost use Rattle.waits.specs.Code.{Tells};
 ghost use Rattle.detector.specs.RwLock.{countUp, countDown, noReaders, written, unwritten, loosen, readAttempt, completeRead, readTry, releaseRead, writeAttempt, completeWrite, releaseWrite, destroyRwLock};
-ghost use Rattle.detector.specs.Refusals.{hintOf, fullAttempt, fullTry};
+ghost use Rattle.detector.specs.Refusals.{hintOf, fullAttempt, fullTry, reportRoom};
 ghost use Rattle.detector.specs.State.{tables, Valid, Does};
 ghost use Rattle.detector.specs.Code.{blocked, triedRead, triedWrite, lookedWrite};
 use crate::mutex::must_look;
@@ -164,7 +164,7 @@ impl Detector {
         o: Outcome,
         buf: &mut [u8],
     ) -> Done
-        requires { ⌜ Valid self × (t < 32) × (l < 64) × (hintOf o < 32) × (fullAttempt (tables self) t l o ≡ 0) × (2080 ≤ length (now buf)) ⌝ }
+        requires { ⌜ Valid self × (t < 32) × (l < 64) × (hintOf o < 32) × (fullAttempt (tables self) t l o ≡ 0) × (reportRoom ≤ length (now buf)) ⌝ }
         ensures { λ r. ⌜ Does r (now (buf .entry)) (now (buf .exit)) (readAttempt (tables self) t l o) ⌝ }
     {
         let w0 = self.waits;
@@ -231,7 +231,7 @@ impl Detector {
         o: Outcome,
         buf: &mut [u8],
     ) -> Done
-        requires { ⌜ Valid self × (t < 32) × (l < 64) × (hintOf o < 32) × (2080 ≤ length (now buf)) ⌝ }
+        requires { ⌜ Valid self × (t < 32) × (l < 64) × (hintOf o < 32) × (reportRoom ≤ length (now buf)) ⌝ }
         ensures { λ r. ⌜ Does r (now (buf .entry)) (now (buf .exit)) (writeAttempt (tables self) t l o) ⌝ }
     {
         let w0 = self.waits;
@@ -249,7 +249,7 @@ impl Detector {
 
     // wc
     pub fn complete_write(self, t: usize, l: usize, buf: &mut [u8]) -> Done
-        requires { ⌜ Valid self × (t < 32) × (l < 64) × (2080 ≤ length (now buf)) ⌝ }
+        requires { ⌜ Valid self × (t < 32) × (l < 64) × (reportRoom ≤ length (now buf)) ⌝ }
         ensures { λ r. ⌜ Does r (now (buf .entry)) (now (buf .exit)) (completeWrite (tables self) t l) ⌝ }
     {
         let w0 = self.waits;

@@ -6,7 +6,8 @@ use lib.ListN.{length, drop}
 use Rattle.answers.proofs.Items.{items-more, items-none}
 use Rattle.answers.proofs.Puts.{Done, done-none, done-more, done-all, done-room, put-length}
 use Rattle.answers.specs.Answers.{itemsText}
-use Rattle.answers.specs.Reports.{entrySize, entriesIn}
+use Rattle.waits.specs.Report.{entryBytes}
+use Rattle.answers.specs.Reports.{entriesIn}
 use Rattle.answers.proofs.cycle.put_items.Statement.{statement}
 use Rattle.answers.proofs.cycle.put_items.Tie as tie
 
@@ -14,7 +15,7 @@ use Rattle.answers.proofs.cycle.put_items.Tie as tie
 abbrev Inv-loop : tie.InvT-loop
 Inv-loop out₀ at buf from n left₀ to₀ p₀ out left to p =
     Done (itemsText (entriesIn n (drop from buf))) (itemsText (entriesIn left (drop p buf))) out₀ at out to
-    × (p + entrySize * left ≡ from + entrySize * n)
+    × (p + entryBytes * left ≡ from + entryBytes * n)
     × (length out ≡ length out₀)
 
 abbrev μ-loop : tie.MeasureT-loop
