@@ -40,12 +40,6 @@ pub range-loosen : (w : Waits) (t l : ℕ) → InRange w → InRange (loosen w t
 unfolding loosen
 range-loosen w t l s = range-graph w _ s
 
-pub range-naming : (w : Waits) (l : ℕ) → InRange w → InRange (clearNaming w l)
-unfolding clearNaming
-range-naming w l s =
-    each-keeps InRange (λ v t. cond (names (intentOf w t) l) (clear v t) v) 32 w
-    (λ v t h p. range-cond (names (intentOf w t) l) (clear v t) v (range-clear v t p) p) s
-
 pub range-purge : (w : Waits) (l : ℕ) → InRange w → InRange (purge w l)
 unfolding purge unholdAll
 range-purge w l s =

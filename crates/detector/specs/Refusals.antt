@@ -1,9 +1,10 @@
 -- REFUSALS 3 to 8, lowest number first; 0 for none.
 use mathlib.Core.Bool.{cond}
-use Prim.Native.Nat.{ℕ, _<_, _≤_}
+use Prim.Native.Nat.{ℕ, _*_, _<_, _≤_}
 use lib.Dec.{ltb, eqb}
 use lib.ListN.{length}
 use Rattle.waits.specs.Owners.{countOf}
+use Rattle.waits.specs.Report.{reportBytes}
 use Rattle.waits.specs.declared.outcome.Outcome.{Outcome}
 use Rattle.waits.specs.declared.outcome.Outcome.the-variants.{Took, Blocked, Hinted}
 use Rattle.waits.specs.declared.outcome.Tried.{Tried}
@@ -47,9 +48,9 @@ numbersOf (CondvarNotifyOne c) = numbers 0 0 0 c
 numbersOf (CondvarNotifyAll c) = numbers 0 0 0 c
 numbersOf (CondvarWaitEnd t c l) = numbers t 0 l c
 
--- room for 32 reports of 65 bytes
+-- 2,080: room for 32 reports
 abbrev pub reportRoom : ℕ
-reportRoom = 2080
+reportRoom = 32 * reportBytes
 
 -- 3 thread or hint above 31; 4 lock above 63; 5 condvar above 15; 6 report buffer below 2,080 bytes; else the next
 unfoldable pub outside : Numbers → ℕ → ℕ → ℕ

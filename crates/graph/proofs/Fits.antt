@@ -132,9 +132,6 @@ pub found-in : (o : Option (List ℕ)) → foundIn (answered o) ≡ o
 found-in none = refl
 found-in (some p) = ap some (take-append-seam p (replicate (32 - length p) 0))
 
-pub list-of : (p : List ℕ) → listOf (answered (some p) .path) ≡ p
-list-of p = take-append-seam p (replicate (32 - length p) 0)
-
 -- a thread or none is below 32
 pub one-lt : (o x : ℕ) → In x (one o) → x < 32
 one-lt o x = go (ltb o 32) (ltb-true o 32)

@@ -33,13 +33,6 @@ in-among x (y ∷ l) (inr m) = go (eqb x y) (in-among x l m)
 pub not-among : (x : ℕ) (l : List ℕ) → among x l ≡ false → In x l → ⊥
 not-among x l h m = true≢false (sym (in-among x l m) ∙ h)
 
-pub in-cases : (x : ℕ) (l : List ℕ) → In x l ⊎ (In x l → ⊥)
-in-cases x l = go (among x l) refl
-  where
-    go : (b : Bool) → among x l ≡ b → In x l ⊎ (In x l → ⊥)
-    go true e = inl (among-in x l e)
-    go false e = inr (not-among x l e)
-
 -- ---- two lists joined
 
 pub in-left : (x : ℕ) (a b : List ℕ) → In x a → In x (a ++ b)

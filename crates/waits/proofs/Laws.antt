@@ -33,14 +33,6 @@ use Rattle.waits.specs.declared.intent.Awaits.the-variants.{Nothing, For
 pub lock-of : (w : Waits) (t : ℕ) (i : WaitIntent) → InRange w → intentOf w t ≡ For i → i .«lock_id» < 64
 lock-of w t i s e = rw e at (s .locks t)
 
-same-range : (w u : Waits) → (w .«thread_waits_for» ≡ u .«thread_waits_for») → (w .«mutex_owners» ≡ u .«mutex_owners») → (w .«rwlock_writer» ≡ u .«rwlock_writer») → InRange w → InRange u
-same-range w u a b c s =
-    record {
-      locks = λ t. subst (λ (l : List Slot). lockOf (getD l t noSlot .awaits) < 64) a (s .locks t);
-      owner = λ l. subst (λ (x : List ℕ). row x l ≤ 32) b (s .owner l);
-      writer = λ l. subst (λ (x : List ℕ). row x l ≤ 32) c (s .writer l);
-    }
-
 -- a thread's slot is written
 range-slot : (w : Waits) (t : ℕ) (v : Slot) (x : List ℕ) → lockOf (v .awaits) < 64 → InRange w → InRange (withIntents w (set (w .«thread_waits_for») t v) x)
 range-slot w t v x h s =

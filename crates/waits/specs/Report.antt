@@ -1,6 +1,6 @@
 -- A REPORT: one byte n, then n pairs of thread and awaited lock in cycle order.
 use mathlib.Core.List.{List, [], _∷_, _++_}
-use Prim.Native.Nat.{ℕ}
+use Prim.Native.Nat.{ℕ, _+_, _*_}
 use lib.ListN.{length}
 use Rattle.waits.specs.Tables.{intentOf, lockOf}
 use Rattle.waits.specs.declared.tables.Waits.{Waits}
@@ -29,7 +29,7 @@ bytesOf r = length (r .threads) ∷ entries (r .state) (r .threads)
 
 -- the longest: 32 entries and their number
 abbrev pub reportBytes : ℕ
-reportBytes = 65
+reportBytes = 1 + 32 * entryBytes
 
 -- several reports, one after the other
 unfoldable pub written : List Report → List ℕ
