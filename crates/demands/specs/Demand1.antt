@@ -1,6 +1,6 @@
 -- DEMAND 1. Every event and every script text gets an answer and an end. An event outside the stated numbers is refused by
 -- number, and then the state and the report buffer hold what they held.
--- Here it is said of events; of script texts, where texts are read.
+-- Here it is said of events; of script texts in crate `transcript`, specs/Calls.antt.
 use mathlib.Core.Path.{_≡_}
 use mathlib.Core.List.{List}
 use Prim.Native.Nat.{ℕ, _<_}

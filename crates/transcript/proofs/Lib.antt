@@ -4,3 +4,4 @@ pub mod Carry
 pub mod Answering
 pub mod Turning
 pub mod Feeding
+pub mod Calls

@@ -3,3 +3,4 @@ pub mod Lines
 pub mod Replay
 pub mod Chunks
 pub mod Code
+pub mod Calls

@@ -1,0 +1,49 @@
+-- What the calls put out, one after the other, is the text of what they took.
+use mathlib.Core.Path.{_≡_, refl, sym, ap, ap₂, _∙_}
+use mathlib.Core.List.{List, [], _∷_, _++_, append-assoc}
+use Prim.Native.Nat.{ℕ, _+_, _-_, _≤_}
+use native.Mathlib.Omega.{arith}
+use lib.ListN.{length, take, drop}
+use lib.Seq.{length-take-le, take-append-seam, drop-append-seam}
+use Rattle.answers.specs.Text.{Room, Put}
+use Rattle.answers.proofs.Puts.{put-whole}
+use Rattle.transcript.specs.Chunks.{Mid, start, mid, fed, says, ends, fedAll, saysAll, joined}
+use Rattle.transcript.specs.Replay as replay
+use Rattle.transcript.specs.Code.{Begins, Feeds, midOf, runOf, between}
+use Rattle.transcript.specs.Calls.{out, Calls, none, next, Printed, AllPrinted}
+use Rattle.transcript.specs.declared.run.Run.{Run}
+use Rattle.transcript.proofs.Text.{text-theorem}
+
+-- what was put stands between the two places
+out-put : (d s d′ : List ℕ) (at r : ℕ) → r ≤ length d → Put d at s d′ r → out d′ at r ≡ s
+out-put d s d′ at r h p =
+    let n : length (take at d) ≡ at = length-take-le at d (omega (arith, p .place)) in
+    let w : d′ ≡ take at d ++ (s ++ drop r d) = put-whole (record { fits = omega (arith, p .place) }) p ∙ append-assoc (take at d) s (drop r d) in
+    let k : r - at ≡ length s = omega (arith, p .place) in
+    let b : drop at d′ ≡ s ++ drop r d =
+    ap (drop at) w ∙ ap (λ (m : ℕ). drop m (take at d ++ (s ++ drop r d))) (sym n) ∙ drop-append-seam (take at d) (s ++ drop r d) in
+    ap₂ take k b ∙ take-append-seam s (drop r d)
+
+-- the calls, as the definitions go through the same parts
+module _ {e : Run} {k : List ℕ} where
+  pub calls-says : {r : Run} {c s : List ℕ} {ts : List (List ℕ)} → Calls r c ts s e k → (s ≡ saysAll (midOf r c) ts) × (midOf e k ≡ fedAll (midOf r c) ts)
+  unfolding saysAll fedAll
+  calls-says none = (refl, refl)
+  calls-says (next {d = d} {d′ = d′} {at = at} {t = t} {ts = ts} f g) =
+      let h = calls-says g in (
+        ap₂ (λ (x y : List ℕ). x ++ y) (out-put d _ d′ at (t .at) (f .place) (f .text)) (h .0 ∙ ap (λ (m : Mid). saysAll m ts) (f .after)),
+        h .1 ∙ ap (λ (m : Mid). fedAll m ts) (f .after),
+      )
+
+begun-mid : {r : Run} (c : List ℕ) → Begins r → midOf r c ≡ start
+begun-mid {r} c b = ap₂ (λ (n : ℕ) (u : replay.Run). mid (take n c) u) (b .have) (b .run)
+
+pub all-printed : AllPrinted
+all-printed ts all p =
+    let m = begun-mid (p .carry) (p .begins) in
+    let h = calls-says (p .calls) in
+    let f : p .fed ≡ saysAll start ts = h .0 ∙ ap (λ (m : Mid). saysAll m ts) m in
+    let e : midOf (p .last) (p .carried) ≡ fedAll start ts = h .1 ∙ ap (λ (m : Mid). fedAll m ts) m in
+    p .whole
+    ∙ ap₂ (λ (x y : List ℕ). x ++ y) f (out-put (p .lent) _ (p .left) (p .at) (p .behind) (p .fits) (p .finished) ∙ ap ends e)
+    ∙ text-theorem ts
