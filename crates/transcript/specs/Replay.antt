@@ -15,7 +15,7 @@ use Rattle.detector.specs.declared.event.Event.{Event}
 use Rattle.detector.specs.declared.reply.Reply.{Reply}
 use Rattle.detector.specs.declared.reply.Reply.the-variants.{Reports, Refused}
 use Rattle.demands.specs.Reached.{room}
-use Rattle.script.specs.Lines.{lineOf}
+use Rattle.script.specs.Lines.{lineOf, lineRefusal}
 use Rattle.script.specs.declared.line.Line.{Line}
 use Rattle.script.specs.declared.line.Line.the-variants as line
 use Rattle.answers.specs.Reports.{Entry}
@@ -54,7 +54,7 @@ eventResult x e (suc k) = refused x (suc k)
 
 abbrev pub lineResult : Tables → Line → Result
 lineResult x (line.Event e) = eventResult x e (refusal x room e)
-lineResult x line.Unread = refused x 1
+lineResult x line.Unread = refused x (lineRefusal line.Unread)
 
 unfoldable pub resultOf : Tables → List ℕ → Result
 resultOf x l = lineResult x (lineOf l)
