@@ -1,16 +1,22 @@
 -- What the calls put out, one after the other, is the text of what they took.
 use mathlib.Core.Path.{_≡_, refl, sym, ap, ap₂, _∙_}
+use mathlib.Core.Logic.{_⊎_, inl, inr, ⊎-elim}
+use mathlib.Core.Bool.{Bool, true, false, cond}
 use mathlib.Core.List.{List, [], _∷_, _++_, append-assoc}
-use Prim.Native.Nat.{ℕ, _+_, _-_, _≤_}
+use Prim.Native.Nat.{ℕ, suc, _+_, _-_, _≤_}
 use native.Mathlib.Omega.{arith}
+use lib.Dec.{ltb, lit≤}
 use lib.ListN.{length, take, drop}
+use borrow.Author.Tests.{ltb-true, ltb-false}
 use lib.Seq.{length-take-le, take-append-seam, drop-append-seam}
 use Rattle.answers.specs.Text.{Room, Put}
 use Rattle.answers.proofs.Puts.{put-whole}
 use Rattle.transcript.specs.Chunks.{Mid, start, mid, fed, says, ends, fedAll, saysAll, joined}
+use Rattle.transcript.specs.Lines.{linesOf}
 use Rattle.transcript.specs.Replay as replay
+use Rattle.transcript.specs.Replay.{limit, begun, after, lineText, lastText, textOf, replayText}
 use Rattle.transcript.specs.Code.{Begins, Feeds, midOf, runOf, between}
-use Rattle.transcript.specs.Calls.{out, Calls, none, next, Printed, AllPrinted}
+use Rattle.transcript.specs.Calls.{out, Calls, none, next, Printed, AllPrinted, answersOf, lastOf, TextsAnswered}
 use Rattle.transcript.specs.declared.run.Run.{Run}
 use Rattle.transcript.proofs.Text.{text-theorem}
 
@@ -47,3 +53,55 @@ all-printed ts all p =
     p .whole
     ∙ ap₂ (λ (x y : List ℕ). x ++ y) f (out-put (p .lent) _ (p .left) (p .at) (p .behind) (p .fits) (p .finished) ∙ ap ends e)
     ∙ text-theorem ts
+
+-- ---- an answer for each line that is read, and an end
+
+text-answers : (ls : List (List ℕ)) (r : replay.Run) → textOf r ls ≡ joined (answersOf r ls) ++ lastText (lastOf r ls)
+unfolding textOf answersOf lastOf joined
+text-answers [] r = refl
+text-answers (l ∷ ls) r = go (ltb (r .lines) limit) (text-answers ls (after r l))
+  where
+    go : (b : Bool) → textOf (after r l) ls ≡ joined (answersOf (after r l) ls) ++ lastText (lastOf (after r l) ls)
+        → cond b (lineText r l ++ textOf (after r l) ls) (lastText r)
+        ≡ joined (cond b (lineText r l ∷ answersOf (after r l) ls) []) ++ lastText (cond b (lastOf (after r l) ls) r)
+    go true ih =
+        ap (λ (x : List ℕ). lineText r l ++ x) ih
+        ∙ sym (append-assoc (lineText r l) (joined (answersOf (after r l) ls)) (lastText (lastOf (after r l) ls)))
+    go false ih = refl
+
+lines-answers : (ls : List (List ℕ)) (r : replay.Run) → lastOf r ls .lines ≡ r .lines + length (answersOf r ls)
+unfolding answersOf lastOf after
+lines-answers [] r = omega arith
+lines-answers (l ∷ ls) r = go (ltb (r .lines) limit) (lines-answers ls (after r l))
+  where
+    go : (b : Bool) → lastOf (after r l) ls .lines ≡ after r l .lines + length (answersOf (after r l) ls)
+        → cond b (lastOf (after r l) ls) r .lines ≡ r .lines + length (cond b (lineText r l ∷ answersOf (after r l) ls) [])
+    go true ih = omega (arith, ih)
+    go false ih = omega arith
+
+abbrev AnsweredFrom : replay.Run → ℕ → ℕ → Type 0
+AnsweredFrom r n lines = ((n ≡ lines) × (r .lines + lines ≤ limit)) ⊎ ((r .lines + n ≡ limit) × (limit ≤ r .lines + lines))
+
+counted-answers : (ls : List (List ℕ)) (r : replay.Run) → r .lines ≤ limit → AnsweredFrom r (length (answersOf r ls)) (length ls)
+unfolding answersOf after
+counted-answers [] r h = inl (refl, omega (arith, h))
+counted-answers (l ∷ ls) r h = go (ltb (r .lines) limit) refl (λ k. counted-answers ls (after r l) k)
+  where
+    go : (b : Bool) → ltb (r .lines) limit ≡ b → (after r l .lines ≤ limit → AnsweredFrom (after r l) (length (answersOf (after r l) ls)) (length ls))
+        → AnsweredFrom r (length (cond b (lineText r l ∷ answersOf (after r l) ls) [])) (length (l ∷ ls))
+    go true e ih =
+        ⊎-elim
+        (λ z. inl (ap (λ (n : ℕ). suc n) (z .0), omega (arith, z .1)))
+        (λ z. inr (omega (arith, z .0), omega (arith, z .1)))
+        (ih (omega (arith, ltb-true (r .lines) limit e)))
+    go false e ih = let k = ltb-false (r .lines) limit e in inr (omega (arith, h, k), omega (arith, k))
+
+pub texts-answered : TextsAnswered
+unfolding replayText
+texts-answered t =
+    let ls = linesOf t in
+    record {
+      text = text-answers ls begun;
+      sum = omega (arith, lines-answers ls begun);
+      counted = ⊎-elim (λ z. inl (z .0, omega (arith, z .0, z .1))) (λ z. inr (omega (arith, z .0), omega (arith, z .1))) (counted-answers ls begun (lit≤ tt));
+    }

@@ -1,11 +1,16 @@
 -- DEMAND 1, of script texts: every script text gets an answer and an end. Said of the calls `begin`, `feed` and `finish`, by
 -- their promises alone: however a text is cut, and whatever buffers are lent, what the calls put out is `replayText` of it.
 use mathlib.Core.Path.{_≡_}
+use mathlib.Core.Logic.{_⊎_}
+use mathlib.Core.Bool.{cond}
 use mathlib.Core.List.{List, [], _∷_, _++_}
 use Prim.Native.Nat.{ℕ, _-_, _≤_}
+use lib.Dec.{ltb}
 use lib.ListN.{length, take, drop}
 use Rattle.answers.specs.Text.{Put}
-use Rattle.transcript.specs.Replay.{replayText}
+use Rattle.transcript.specs.Lines.{linesOf}
+use Rattle.transcript.specs.Replay as replay
+use Rattle.transcript.specs.Replay.{limit, begun, after, lineText, lastText, replayText}
 use Rattle.transcript.specs.Chunks.{ends, joined}
 use Rattle.transcript.specs.Code.{Begins, Feeds, midOf, between}
 use Rattle.transcript.specs.declared.run.Run.{Run}
@@ -42,3 +47,25 @@ pub record Printed (ts : List (List ℕ)) (all : List ℕ) : Type 0 where
 
 abbrev pub AllPrinted : Type 0
 AllPrinted = (ts : List (List ℕ)) (all : List ℕ) → Printed ts all → all ≡ replayText (joined ts)
+
+-- AN ANSWER AND AN END: the text is the answers of the lines that are read, one each, and then the sums once
+unfoldable pub answersOf : replay.Run → List (List ℕ) → List (List ℕ)
+answersOf r [] = []
+answersOf r (l ∷ ls) = cond (ltb (r .lines) limit) (lineText r l ∷ answersOf (after r l) ls) []
+
+-- the run behind them
+unfoldable pub lastOf : replay.Run → List (List ℕ) → replay.Run
+lastOf r [] = r
+lastOf r (l ∷ ls) = cond (ltb (r .lines) limit) (lastOf (after r l) ls) r
+
+-- all lines are answered, or the first 1,000,000
+abbrev pub AllOrLimit : ℕ → ℕ → Type 0
+AllOrLimit n lines = ((n ≡ lines) × (n ≤ limit)) ⊎ ((n ≡ limit) × (limit ≤ lines))
+
+pub record TextAnswered (t : List ℕ) : Type 0 where
+  pub text : replayText t ≡ joined (answersOf begun (linesOf t)) ++ lastText (lastOf begun (linesOf t))
+  pub sum : lastOf begun (linesOf t) .lines ≡ length (answersOf begun (linesOf t))
+  pub counted : AllOrLimit (length (answersOf begun (linesOf t))) (length (linesOf t))
+
+abbrev pub TextsAnswered : Type 0
+TextsAnswered = (t : List ℕ) → TextAnswered t
