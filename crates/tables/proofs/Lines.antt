@@ -19,11 +19,12 @@ use Rattle.listing.specs.Code.{tablesRoom}
 use Rattle.transcript.specs.Lines.{lineFeed}
 use Rattle.transcript.specs.Replay.{Run, limit, after, lineText, lastText}
 use Rattle.transcript.specs.Chunks.{Mid, mid, step, said, fed, says, lastLine}
-use Rattle.transcript.specs.Code.{Kept, runOf, midOf, between, Turns}
+use Rattle.transcript.specs.Code.{Kept, runOf, midOf, between, Moves, Feeds}
 use Rattle.transcript.specs.declared.run.Run as code
 use Rattle.transcript.specs.declared.run.Turned.{Turned}
+use Rattle.transcript.proofs.Feeding.{feeds-move}
 use Rattle.tables.specs.Shown.{lineShown, shownOf, shown, shows, closes}
-use Rattle.tables.specs.Code.{space, feeds, OneLine, Shows}
+use Rattle.tables.specs.Code.{space, lineEnds, OneLine, Shows}
 
 -- ---- a byte ends no line that is read, or it ends one
 
@@ -63,55 +64,55 @@ lines-up m (b ∷ t) =
     let n : step m b .run .lines ≤ fed (step m b) t .run .lines = lines-up (step m b) t in
     byte m b (λ i. omega (arith, n, idle-lines i)) (λ l. omega (arith, n, ends-lines l))
 
-feeds-pick : (f : Bool) (b : ℕ) (t : List ℕ) → eqb b lineFeed ≡ f → feeds t ≤ feeds (b ∷ t)
-unfolding feeds
-feeds-pick true b t e = rw e (omega arith)
-feeds-pick false b t e = rw e (omega arith)
+line-ends-pick : (f : Bool) (b : ℕ) (t : List ℕ) → eqb b lineFeed ≡ f → lineEnds t ≤ lineEnds (b ∷ t)
+unfolding lineEnds
+line-ends-pick true b t e = rw e (omega arith)
+line-ends-pick false b t e = rw e (omega arith)
 
-feeds-feed : (b : ℕ) (t : List ℕ) → eqb b lineFeed ≡ true → feeds (b ∷ t) ≡ suc (feeds t)
-unfolding feeds
-feeds-feed b t e = rw e refl
+line-ends-feed : (b : ℕ) (t : List ℕ) → eqb b lineFeed ≡ true → lineEnds (b ∷ t) ≡ suc (lineEnds t)
+unfolding lineEnds
+line-ends-feed b t e = rw e refl
 
-lines-few : (m : Mid) (t : List ℕ) → fed m t .run .lines ≤ m .run .lines + feeds t
+lines-few : (m : Mid) (t : List ℕ) → fed m t .run .lines ≤ m .run .lines + lineEnds t
 unfolding fed
 lines-few m [] = omega arith
 lines-few m (b ∷ t) =
-    let n : fed (step m b) t .run .lines ≤ step m b .run .lines + feeds t = lines-few (step m b) t in
+    let n : fed (step m b) t .run .lines ≤ step m b .run .lines + lineEnds t = lines-few (step m b) t in
     byte m b
-    (λ i. omega (arith, n, idle-lines i, feeds-pick (eqb b lineFeed) b t refl))
-    (λ l. omega (arith, n, ends-lines l, feeds-feed b t (l .feed)))
+    (λ i. omega (arith, n, idle-lines i, line-ends-pick (eqb b lineFeed) b t refl))
+    (λ l. omega (arith, n, ends-lines l, line-ends-feed b t (l .feed)))
 
-feeds-first : (a b : List ℕ) → feeds a ≤ feeds (a ++ b)
-unfolding feeds
-feeds-first [] b = omega arith
-feeds-first (x ∷ a) b = go (eqb x lineFeed) (feeds-first a b)
+line-ends-first : (a b : List ℕ) → lineEnds a ≤ lineEnds (a ++ b)
+unfolding lineEnds
+line-ends-first [] b = omega arith
+line-ends-first (x ∷ a) b = go (eqb x lineFeed) (line-ends-first a b)
   where
-    go : (f : Bool) → feeds a ≤ feeds (a ++ b) → cond f (suc (feeds a)) (feeds a) ≤ cond f (suc (feeds (a ++ b))) (feeds (a ++ b))
+    go : (f : Bool) → lineEnds a ≤ lineEnds (a ++ b) → cond f (suc (lineEnds a)) (lineEnds a) ≤ cond f (suc (lineEnds (a ++ b))) (lineEnds (a ++ b))
     go true h = omega arith
     go false h = h
 
 -- ---- a part of a chunk, byte by byte
 
-pub feeds-more : (a : List ℕ) (b : ℕ) → feeds (a ++ (b ∷ [])) ≡ feeds a + feeds (b ∷ [])
-unfolding feeds
-feeds-more [] b = omega arith
-feeds-more (x ∷ a) b = go (eqb x lineFeed) (feeds-more a b)
+pub line-ends-more : (a : List ℕ) (b : ℕ) → lineEnds (a ++ (b ∷ [])) ≡ lineEnds a + lineEnds (b ∷ [])
+unfolding lineEnds
+line-ends-more [] b = omega arith
+line-ends-more (x ∷ a) b = go (eqb x lineFeed) (line-ends-more a b)
   where
-    go : (f : Bool) → feeds (a ++ (b ∷ [])) ≡ feeds a + feeds (b ∷ []) → cond f (suc (feeds (a ++ (b ∷ [])))) (feeds (a ++ (b ∷ []))) ≡ cond f (suc (feeds a)) (feeds a) + feeds (b ∷ [])
+    go : (f : Bool) → lineEnds (a ++ (b ∷ [])) ≡ lineEnds a + lineEnds (b ∷ []) → cond f (suc (lineEnds (a ++ (b ∷ [])))) (lineEnds (a ++ (b ∷ []))) ≡ cond f (suc (lineEnds a)) (lineEnds a) + lineEnds (b ∷ [])
     go true h = omega arith
     go false h = h
 
-feeds-byte : (b : ℕ) → feeds (b ∷ []) ≤ 1
-unfolding feeds
-feeds-byte b = go (eqb b lineFeed)
+line-ends-byte : (b : ℕ) → lineEnds (b ∷ []) ≤ 1
+unfolding lineEnds
+line-ends-byte b = go (eqb b lineFeed)
   where
     go : (f : Bool) → cond f 1 0 ≤ 1
     go true = omega arith
     go false = omega arith
 
-feeds-other : (b : ℕ) → (b ≡ lineFeed → ⊥) → feeds (b ∷ []) ≡ 0
-unfolding feeds
-feeds-other b n = rw (ne-eqb b lineFeed n) refl
+line-ends-other : (b : ℕ) → (b ≡ lineFeed → ⊥) → lineEnds (b ∷ []) ≡ 0
+unfolding lineEnds
+line-ends-other b n = rw (ne-eqb b lineFeed n) refl
 
 between-more : (l : List ℕ) (from i : ℕ) → from ≤ i → i < length l → between from (i + 1) l ≡ between from i l ++ (getD l i 0 ∷ [])
 between-more l from i h w =
@@ -121,11 +122,11 @@ between-more l from i h w =
 pub record NoLine (chunk : List ℕ) (from i : ℕ) : Type 0 where
   pub onward : from ≤ i
   pub inside : i ≤ length chunk
-  pub none : feeds (between from i chunk) ≡ 0
+  pub none : lineEnds (between from i chunk) ≡ 0
 
 pub no-line : (chunk : List ℕ) (from : ℕ) → from < length chunk → NoLine chunk from from
-unfolding feeds
-no-line chunk from h = record { onward = omega arith; inside = omega arith; none = ap feeds (slice-empty from chunk) }
+unfolding lineEnds
+no-line chunk from h = record { onward = omega arith; inside = omega arith; none = ap lineEnds (slice-empty from chunk) }
 
 module _ {chunk : List ℕ} {from i : ℕ} (g : NoLine chunk from i) where
   pub no-line-more : i < length chunk → (getD chunk i 0 ≡ lineFeed → ⊥) → NoLine chunk from (i + 1)
@@ -133,7 +134,7 @@ module _ {chunk : List ℕ} {from i : ℕ} (g : NoLine chunk from i) where
       record {
         onward = omega (arith, g .onward);
         inside = omega arith;
-        none = ap feeds (between-more chunk from i (g .onward) h) ∙ feeds-more (between from i chunk) (getD chunk i 0) ∙ omega (arith, g .none, feeds-other (getD chunk i 0) n);
+        none = ap lineEnds (between-more chunk from i (g .onward) h) ∙ line-ends-more (between from i chunk) (getD chunk i 0) ∙ omega (arith, g .none, line-ends-other (getD chunk i 0) n);
       }
 
   pub line-ended : i < length chunk → OneLine chunk from (i + 1)
@@ -143,10 +144,10 @@ module _ {chunk : List ℕ} {from i : ℕ} (g : NoLine chunk from i) where
         inside = omega arith;
         one = omega (
           arith,
-          ap feeds (between-more chunk from i (g .onward) h),
-          feeds-more (between from i chunk) (getD chunk i 0),
+          ap lineEnds (between-more chunk from i (g .onward) h),
+          line-ends-more (between from i chunk) (getD chunk i 0),
           g .none,
-          feeds-byte (getD chunk i 0),
+          line-ends-byte (getD chunk i 0),
         );
       }
 
@@ -185,11 +186,14 @@ single m (b ∷ t) e = byte m b
         rw (l .says, l .shows, q .says, q .shows, q .run, l .run)
         (append-nil (lineShown (m .run) (m .part)) ∙ ap (λ (x : List ℕ). x ++ tablesText (after (m .run) (m .part) .tables)) (sym (append-nil (lineText (m .run) (m .part)))))
 
--- ---- a turn over a part in which one line ends at most
+-- ---- a call of feed over a part in which one line ends at most
 
-module _ {r : code.Run} {carry chunk : List ℕ} {from e : ℕ} {out : List ℕ} {t : Turned} {carry′ out′ : List ℕ} (o : OneLine chunk from e) (s : Turns r carry (take e chunk) from out 0 t carry′ out′) where
+module _ {r : code.Run} {carry chunk : List ℕ} {from e : ℕ} {out : List ℕ} {t : Turned} {carry′ out′ : List ℕ} (o : OneLine chunk from e) (s : Feeds r carry (take e chunk) from out 0 t carry′ out′) (more : r .lines < limit) (room : length out ≡ space) where
   ahead : t .next ≤ e
-  ahead = omega (arith, s .inside, length-take-le e chunk (o .inside))
+  ahead = omega (arith, s .moves .inside, length-take-le e chunk (o .inside))
+
+  onward : from < t .next
+  onward = feeds-move s (omega (arith, o .onward, length-take-le e chunk (o .inside))) more (omega (arith, room))
 
   part : between from (t .next) (take e chunk) ≡ between from (t .next) chunk
   part = ap (drop from) (take-take (t .next) e chunk ahead)
@@ -197,16 +201,25 @@ module _ {r : code.Run} {carry chunk : List ℕ} {from e : ℕ} {out : List ℕ}
   lead : between from e chunk ≡ between from (t .next) chunk ++ drop (t .next) (take e chunk)
   lead =
       ap (drop from) (sym (take-append-drop (t .next) (take e chunk)) ∙ ap (λ (x : List ℕ). x ++ drop (t .next) (take e chunk)) (take-take (t .next) e chunk ahead))
-      ∙ drop-append-le from (take (t .next) chunk) (drop (t .next) (take e chunk)) (omega (arith, s .onward, length-take-le (t .next) chunk (omega (arith, ahead, o .inside))))
+      ∙ drop-append-le from (take (t .next) chunk) (drop (t .next) (take e chunk)) (omega (arith, onward, length-take-le (t .next) chunk (omega (arith, ahead, o .inside))))
 
-  few : feeds (between from (t .next) chunk) ≤ 1
-  few = omega (arith, o .one, feeds-first (between from (t .next) chunk) (drop (t .next) (take e chunk)), ap feeds lead)
+  few : lineEnds (between from (t .next) chunk) ≤ 1
+  few = omega (arith, o .one, line-ends-first (between from (t .next) chunk) (drop (t .next) (take e chunk)), ap lineEnds lead)
 
   moved : midOf (t .run) carry′ ≡ fed (midOf r carry) (between from (t .next) chunk)
-  moved = s .after ∙ ap (fed (midOf r carry)) part
+  moved = s .moves .after ∙ ap (fed (midOf r carry)) part
 
   count : t .run .lines ≡ fed (midOf r carry) (between from (t .next) chunk) .run .lines
   count = ap (λ (m : Mid). m .run .lines) moved
+
+  grown : t .run .lines ≤ r .lines + 1
+  grown = omega (arith, count, few, lines-few (midOf r carry) (between from (t .next) chunk))
+
+  pub short : t .at ≤ answerRoom
+  short = omega (arith, s .short, grown)
+
+  moves : Moves r carry chunk from t carry′
+  moves = record { kept = s .moves .kept; onward = s .moves .onward; inside = omega (arith, ahead, o .inside); after = moved }
 
   put : Put out 0 (says (midOf r carry) (between from (t .next) chunk)) out′ (t .at)
   put = subst (λ (z : List ℕ). Put out 0 (says (midOf r carry) z) out′ (t .at)) part (s .text)
@@ -215,29 +228,25 @@ module _ {r : code.Run} {carry chunk : List ℕ} {from e : ℕ} {out : List ℕ}
   shows-none same =
       let q : Quiet (midOf r carry) (between from (t .next) chunk) = quiet (midOf r carry) (between from (t .next) chunk) (sym count ∙ same) in
       record {
-        kept = s .kept;
-        onward = s .onward;
-        inside = omega (arith, ahead, o .inside);
-        after = moved;
+        moves = moves;
+        onward = onward;
         text = subst (λ (z : List ℕ). Put out 0 z out′ (t .at)) (q .says ∙ sym (q .shows)) put;
-        place = omega (arith, s .place);
+        place = omega (arith, short);
       }
 
   pub shows-tables : (out″ : List ℕ) (to : ℕ) → (t .run .lines ≡ r .lines → ⊥) → Put out′ (t .at) (tablesText (tables (t .run .detector))) out″ to → to ≤ t .at + tablesRoom
       → Shows r carry chunk from out (record { run = t .run; next = t .next; at = to }) carry′ out″
   shows-tables out″ to other p w =
-      let grown : fed (midOf r carry) (between from (t .next) chunk) .run .lines ≡ r .lines + 1 =
-      omega (arith, other, count, few, lines-few (midOf r carry) (between from (t .next) chunk), lines-up (midOf r carry) (between from (t .next) chunk)) in
+      let one : fed (midOf r carry) (between from (t .next) chunk) .run .lines ≡ r .lines + 1 =
+      omega (arith, other, count, grown, lines-up (midOf r carry) (between from (t .next) chunk)) in
       let state : tables (t .run .detector) ≡ fed (midOf r carry) (between from (t .next) chunk) .run .tables = ap (λ (m : Mid). m .run .tables) moved in
       record {
-        kept = s .kept;
-        onward = s .onward;
-        inside = omega (arith, ahead, o .inside);
-        after = moved;
+        moves = record { kept = s .moves .kept; onward = s .moves .onward; inside = omega (arith, ahead, o .inside); after = moved };
+        onward = onward;
         text = subst (λ (z : List ℕ). Put out 0 z out″ to)
-            (ap (λ (x : Tables). says (midOf r carry) (between from (t .next) chunk) ++ tablesText x) state ∙ sym (single (midOf r carry) (between from (t .next) chunk) grown))
+            (ap (λ (x : Tables). says (midOf r carry) (between from (t .next) chunk) ++ tablesText x) state ∙ sym (single (midOf r carry) (between from (t .next) chunk) one))
             (then put p);
-        place = omega (arith, s .place, w);
+        place = omega (arith, short, w);
       }
 
 -- ---- the end
@@ -265,11 +274,11 @@ pub closes-more : (r : code.Run) (carry carry′ out out₁ out₂ : List ℕ) (
     → Shows r carry (lineFeed ∷ []) 0 out t carry′ out₁ → Put out₁ (t .at) (lastText (runOf (t .run))) out₂ k × (k ≤ t .at + endRoom)
     → Put out 0 (closes (midOf r carry)) out₂ k × (k ≤ space)
 closes-more r carry carry′ out out₁ out₂ k t g h n s p =
-    let one : t .next ≡ 1 = omega (arith, s .onward, s .inside) in
+    let one : t .next ≡ 1 = omega (arith, s .onward, s .moves .inside) in
     let cut : between 0 (t .next) (lineFeed ∷ []) ≡ lineFeed ∷ [] = ap (λ (j : ℕ). between 0 j (lineFeed ∷ [])) one in
     let some : 0 < length (take (r .have) carry) = omega (arith, length-take (r .have) carry, g .long, h) in
     let free : ltb (r .lines) limit ≡ true = lt-ltb (r .lines) limit (omega (arith, g .lines, n)) in
-    let last : runOf (t .run) ≡ fed (midOf r carry) (lineFeed ∷ []) .run = ap (λ (m : Mid). m .run) (s .after ∙ ap (fed (midOf r carry)) cut) in (
+    let last : runOf (t .run) ≡ fed (midOf r carry) (lineFeed ∷ []) .run = ap (λ (m : Mid). m .run) (s .moves .after ∙ ap (fed (midOf r carry)) cut) in (
       subst (λ (z : List ℕ). Put out 0 z out₂ k)
           (ap₂ (λ (c : List ℕ) (u : Run). shows (midOf r carry) c ++ lastText u) cut last ∙ sym (closes-line (take (r .have) carry) (runOf r) some free))
           (then (s .text) (p .0)),

@@ -13,8 +13,8 @@ use Rattle.transcript.specs.Replay.{Run, Result, limit, begun, after, lineText,
 use Rattle.transcript.specs.Chunks.{Mid, mid, start, step, fed, lastLine, joined}
 use Rattle.transcript.proofs.Text.{fed-joined, cut-result, cut-more}
 use Rattle.tables.specs.Shown.{lineShown, shownOf, shownText, shown, shows, closes, showsAll, ShownTheorem}
-use Rattle.tables.specs.Code.{feeds}
-use Rattle.tables.proofs.Lines.{feeds-more, shown-full}
+use Rattle.tables.specs.Code.{lineEnds}
+use Rattle.tables.proofs.Lines.{line-ends-more, shown-full}
 
 -- ---- chunks are their concatenation
 
@@ -45,28 +45,28 @@ last-cut r (b ∷ p) = rw (line-cut r (b ∷ p), after-cut r (b ∷ p)) refl
 
 -- ---- the lines of a text that begins with a part in which no line ends
 
-other : (x : ℕ) (p : List ℕ) → feeds (x ∷ p) ≡ 0 → (eqb x lineFeed ≡ false) × (feeds p ≡ 0)
-unfolding feeds
+other : (x : ℕ) (p : List ℕ) → lineEnds (x ∷ p) ≡ 0 → (eqb x lineFeed ≡ false) × (lineEnds p ≡ 0)
+unfolding lineEnds
 other x p = go (eqb x lineFeed) refl
   where
-    go : (f : Bool) → eqb x lineFeed ≡ f → cond f (suc (feeds p)) (feeds p) ≡ 0 → (eqb x lineFeed ≡ false) × (feeds p ≡ 0)
+    go : (f : Bool) → eqb x lineFeed ≡ f → cond f (suc (lineEnds p)) (lineEnds p) ≡ 0 → (eqb x lineFeed ≡ false) × (lineEnds p ≡ 0)
     go true e h = absurd (omega arith)
     go false e h = (e, h)
 
-lines-last : (p : List ℕ) → feeds p ≡ 0 → linesOf p ≡ lastLine p
+lines-last : (p : List ℕ) → lineEnds p ≡ 0 → linesOf p ≡ lastLine p
 unfolding linesOf
 lines-last [] h = refl
 lines-last (x ∷ []) h = rw (other x [] h .0) refl
 lines-last (x ∷ y ∷ p) h = rw (other x (y ∷ p) h .0) (ap (onFirst x) (lines-last (y ∷ p) (other x (y ∷ p) h .1)))
 
-lines-line : (p : List ℕ) (b : ℕ) (t : List ℕ) → feeds p ≡ 0 → eqb b lineFeed ≡ true → linesOf (p ++ (b ∷ t)) ≡ p ∷ linesOf t
+lines-line : (p : List ℕ) (b : ℕ) (t : List ℕ) → lineEnds p ≡ 0 → eqb b lineFeed ≡ true → linesOf (p ++ (b ∷ t)) ≡ p ∷ linesOf t
 unfolding linesOf
 lines-line [] b t h e = rw e refl
 lines-line (x ∷ p) b t h e = rw (other x p h .0) (ap (onFirst x) (lines-line p b t (other x p h .1) e))
 
-feeds-none : (p : List ℕ) (b : ℕ) → feeds p ≡ 0 → eqb b lineFeed ≡ false → feeds (p ++ (b ∷ [])) ≡ 0
-unfolding feeds
-feeds-none p b h e = feeds-more p b ∙ rw (h, e) refl
+line-ends-none : (p : List ℕ) (b : ℕ) → lineEnds p ≡ 0 → eqb b lineFeed ≡ false → lineEnds (p ++ (b ∷ [])) ≡ 0
+unfolding lineEnds
+line-ends-none p b h e = line-ends-more p b ∙ rw (h, e) refl
 
 -- ---- the theorem, from any line so far and any run
 
@@ -75,18 +75,18 @@ unfolding shownOf
 shown-line r l ls e = rw e
 
 Whole : List ℕ → Type 0
-Whole t = (p : List ℕ) → feeds p ≡ 0 → (r : Run) → shows (mid (take 41 p) r) t ++ closes (fed (mid (take 41 p) r) t) ≡ shownOf r (linesOf (p ++ t))
+Whole t = (p : List ℕ) → lineEnds p ≡ 0 → (r : Run) → shows (mid (take 41 p) r) t ++ closes (fed (mid (take 41 p) r) t) ≡ shownOf r (linesOf (p ++ t))
 
-whole-byte : (free feed : Bool) (b : ℕ) (t : List ℕ) (p : List ℕ) (h : feeds p ≡ 0) (r : Run) → ltb (r .lines) limit ≡ free → eqb b lineFeed ≡ feed → Whole t
+whole-byte : (free feed : Bool) (b : ℕ) (t : List ℕ) (p : List ℕ) (h : lineEnds p ≡ 0) (r : Run) → ltb (r .lines) limit ≡ free → eqb b lineFeed ≡ feed → Whole t
     → shows (mid (take 41 p) r) (b ∷ t) ++ closes (fed (mid (take 41 p) r) (b ∷ t)) ≡ shownOf r (linesOf (p ++ (b ∷ t)))
-unfolding Whole shows shown step fed feeds
+unfolding Whole shows shown step fed lineEnds
 whole-byte false feed b t p h r e f ih = rw e (ih p h r ∙ shown-full r _ e ∙ sym (shown-full r _ e))
 whole-byte true true b t p h r e f ih =
     rw (e, f, line-cut r p, after-cut r p)
     (append-assoc (lineShown r p) _ _ ∙ ap (λ (x : List ℕ). lineShown r p ++ x) (ih [] refl (after r p)) ∙ sym (shown-line r p _ e)
     ∙ ap (shownOf r) (sym (lines-line p b t h f)))
 whole-byte true false b t p h r e f ih =
-    rw (e, f, cut-more p (b ∷ [])) (ih (p ++ (b ∷ [])) (feeds-none p b h f) r ∙ ap (λ (x : List ℕ). shownOf r (linesOf x)) (append-assoc p (b ∷ []) t))
+    rw (e, f, cut-more p (b ∷ [])) (ih (p ++ (b ∷ [])) (line-ends-none p b h f) r ∙ ap (λ (x : List ℕ). shownOf r (linesOf x)) (append-assoc p (b ∷ []) t))
 
 whole : (t : List ℕ) → Whole t
 unfolding Whole shows fed closes
@@ -94,5 +94,5 @@ whole [] = λ p h r. last-cut r p ∙ ap (shownOf r) (sym (ap linesOf (append-ni
 whole (b ∷ t) = λ p h r. whole-byte (ltb (r .lines) limit) (eqb b lineFeed) b t p h r refl refl (whole t)
 
 pub shown-theorem : ShownTheorem
-unfolding shownText Whole feeds
+unfolding shownText Whole lineEnds
 shown-theorem ts = rw (shows-joined start ts, fed-joined start ts) (whole (joined ts) [] refl begun)

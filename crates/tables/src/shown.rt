@@ -3,8 +3,8 @@ use listing::put_tables;
 use transcript::LIMIT;
 use transcript::Run;
 use transcript::Turned;
+use transcript::feed;
 use transcript::put_sums;
-use transcript::take_turn;
 ghost use mathlib.Core.Path.{_≡_};
 ghost use Prim.Native.Nat.{_<_, _≤_};
 ghost use lib.ListN.{length};
@@ -45,7 +45,7 @@ pub(crate) fn show_line(
 {
     let lines = run.lines;
     let end = line_end(chunk, from);
-    let t = take_turn(run, carry, &chunk[..end], from, out, 0, buf);
+    let t = feed(run, carry, &chunk[..end], from, out, 0, buf);
     let r = t.run;
     if r.lines == lines {
         return t;

@@ -11,10 +11,9 @@ use Rattle.waits.specs.declared.tables.Waits.{Waits}
 use Rattle.detector.specs.Tables.{Answer}
 use Rattle.detector.specs.Events.{apply}
 use Rattle.detector.specs.Refusals.{refusal}
-use Rattle.detector.specs.State.{tables, Does, Answers}
+use Rattle.detector.specs.State.{tables, Does}
 use Rattle.detector.specs.declared.event.Event.{Event}
 use Rattle.detector.specs.declared.state.Detector.{Detector}
-use Rattle.detector.specs.declared.reply.Answered.{Answered}
 use Rattle.detector.specs.declared.reply.Done.{Done}
 use Rattle.detector.specs.declared.reply.Reply.{Reply}
 use Rattle.detector.specs.declared.reply.Reply.the-variants.{Reports, Refused}
@@ -83,20 +82,6 @@ served-results d e r b c g n q s =
       few = omega (arith, most-32 e);
       small = omega (arith, most-32 e);
     }
-
-pub event-results : (d : Detector) (e : Event) (r : Answered) (b c : List ℕ) → Good d → length b ≡ room → Answers (refusal (tables d) (length b) e) d e r b c
-    → Results r c (eventResult (tables d) e (refusal (tables d) room e))
-event-results d e r b c g n s =
-    go (refusal (tables d) room e) refl (subst (λ (k : ℕ). Answers (refusal (tables d) k e) d e r b c) n s)
-  where
-    go : (k : ℕ) → refusal (tables d) room e ≡ k → Answers (refusal (tables d) room e) d e r b c → Results r c (eventResult (tables d) e k)
-    go zero q s =
-        let p = s .served q in
-        subst (λ (y : Reply). Results (record { detector = r .detector; reply = y }) c (eventResult (tables d) e 0)) (sym (p .0)) (served-results d e (r .detector) b c g n q (p .1))
-    go (suc k) q s =
-        let p = s .refused (omega arith) in
-        subst (λ (z : Answered). Results z c (refused (tables d) (suc k))) (sym (p .0 ∙ ap (λ (m : ℕ). record { detector = d; reply = Refused m }) q))
-        (refused-results d (suc k) c g (omega (arith, refusal-known (tables d) room e .most)))
 
 -- ---- where the ways of a line meet: what is answered, and a buffer of bytes, as long as before
 

@@ -37,8 +37,8 @@ module _ {e : Run} {k : List ℕ} where
   calls-says none = (refl, refl)
   calls-says (next {d = d} {d′ = d′} {at = at} {t = t} {ts = ts} f g) =
       let h = calls-says g in (
-        ap₂ (λ (x y : List ℕ). x ++ y) (out-put d _ d′ at (t .at) (f .place) (f .text)) (h .0 ∙ ap (λ (m : Mid). saysAll m ts) (f .after)),
-        h .1 ∙ ap (λ (m : Mid). fedAll m ts) (f .after),
+        ap₂ (λ (x y : List ℕ). x ++ y) (out-put d _ d′ at (t .at) (f .place) (f .text)) (h .0 ∙ ap (λ (m : Mid). saysAll m ts) (f .moves .after)),
+        h .1 ∙ ap (λ (m : Mid). fedAll m ts) (f .moves .after),
       )
 
 begun-mid : {r : Run} (c : List ℕ) → Begins r → midOf r c ≡ start

@@ -1,4 +1,4 @@
--- The carry of a line's first 41 bytes.
+-- The carry of a line's first bytes.
 use mathlib.Core.Path.{_≡_, sym, ap, _∙_}
 use mathlib.Core.List.{List, _∷_, _++_, append-nil}
 use Prim.Native.Nat.{ℕ, _+_, _<_, _≤_}
@@ -8,15 +8,16 @@ use lib.ListN.{length, take, drop, getD, set, length-take, drop-of-length-le}
 use lib.Seq.{drop-cons, take-all, take-append-le, append-snoc, take-suc-set}
 use Rattle.script.specs.Lines.{lineOf}
 use Rattle.script.proofs.Steps.{line-cut}
+use Rattle.transcript.specs.Chunks.{carrySize}
 
 -- nothing of the part is left, or no room
-pub kept-all : (carry part : List ℕ) (h i : ℕ) → h ≤ 41 → length part ≤ i → take h carry ≡ take 41 (take h carry ++ drop i part)
-kept-all carry part h i g e = rw (drop-of-length-le part e, append-nil) (sym (take-all 41 (take h carry) (omega (arith, length-take h carry))))
+pub kept-all : (carry part : List ℕ) (h i : ℕ) → h ≤ carrySize → length part ≤ i → take h carry ≡ take carrySize (take h carry ++ drop i part)
+kept-all carry part h i g e = rw (drop-of-length-le part e, append-nil) (sym (take-all carrySize (take h carry) (omega (arith, length-take h carry))))
 
-pub kept-full : (carry x : List ℕ) (h : ℕ) → length carry ≡ 41 → h ≡ 41 → take h carry ≡ take 41 (take h carry ++ x)
+pub kept-full : (carry x : List ℕ) (h : ℕ) → length carry ≡ carrySize → h ≡ carrySize → take h carry ≡ take carrySize (take h carry ++ x)
 kept-full carry x h n e =
-    let k : 41 ≤ length (take h carry) = omega (arith, length-take h carry) in
-    sym (take-append-le 41 (take h carry) x k ∙ take-all 41 (take h carry) (omega (arith, length-take h carry)))
+    let k : carrySize ≤ length (take h carry) = omega (arith, length-take h carry) in
+    sym (take-append-le carrySize (take h carry) x k ∙ take-all carrySize (take h carry) (omega (arith, length-take h carry)))
 
 -- a byte more
 pub kept-more : (carry part : List ℕ) (h i : ℕ) → h < length carry → i < length part
@@ -29,5 +30,5 @@ kept-more carry part h i w k =
     ∙ ap (λ (j : ℕ). take h carry ++ getD part i 0 ∷ drop j part) (add-one i))
 
 -- what is carried reads as the whole line
-pub kept-line : (q p : List ℕ) → q ≡ take 41 p → lineOf q ≡ lineOf p
+pub kept-line : (q p : List ℕ) → q ≡ take carrySize p → lineOf q ≡ lineOf p
 kept-line q p e = ap lineOf e ∙ line-cut p

@@ -10,8 +10,9 @@ use lib.ListN.{length, take, drop, take-append-drop}
 use lib.Seq.{take-take, take-all}
 use Rattle.transcript.specs.Replay.{limit}
 use Rattle.transcript.specs.Chunks.{Mid, step, fed}
-use Rattle.transcript.specs.Code.{Kept, midOf, between}
+use Rattle.transcript.specs.Code.{Kept, midOf, between, Moves}
 use Rattle.transcript.specs.declared.run.Run.{Run}
+use Rattle.transcript.specs.declared.run.Turned.{Turned}
 use Rattle.transcript.proofs.Text.{fed-append}
 
 step-full : (m : Mid) (b : ℕ) → ltb (m .run .lines) limit ≡ false → step m b ≡ m
@@ -34,13 +35,14 @@ unfolding fed
 taken-none chunk carry r k = record { kept = k; inside = omega arith; after = refl }
 
 module _ {m : Mid} {chunk carry : List ℕ} {r : Run} {i : ℕ} (g : Taken m chunk carry r i) where
-  pub taken-more : {carry′ : List ℕ} {r′ : Run} {j : ℕ} → Kept r′ carry′ → i ≤ j → j ≤ length chunk → midOf r′ carry′ ≡ fed (midOf r carry) (between i j chunk) → Taken m chunk carry′ r′ j
-  taken-more {carry′} {r′} {j} k h w e =
+  pub taken-more : {carry′ : List ℕ} {t : Turned} → Moves r carry chunk i t carry′ → Taken m chunk carry′ (t .run) (t .next)
+  taken-more {carry′} {t} s =
+      let j = t .next in
       record {
-        kept = k;
-        inside = w;
-        after = e ∙ ap (λ (n : Mid). fed n (between i j chunk)) (g .after) ∙ sym (fed-append m (take i chunk) (between i j chunk))
-            ∙ ap (fed m) (ap (λ (x : List ℕ). x ++ drop i (take j chunk)) (sym (take-take i j chunk h)) ∙ take-append-drop i (take j chunk));
+        kept = s .kept;
+        inside = s .inside;
+        after = s .after ∙ ap (λ (n : Mid). fed n (between i j chunk)) (g .after) ∙ sym (fed-append m (take i chunk) (between i j chunk))
+            ∙ ap (fed m) (ap (λ (x : List ℕ). x ++ drop i (take j chunk)) (sym (take-take i j chunk (s .onward))) ∙ take-append-drop i (take j chunk));
       }
 
   pub taken-all : length chunk ≤ i → midOf r carry ≡ fed m chunk

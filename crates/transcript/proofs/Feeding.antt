@@ -20,11 +20,12 @@ use Rattle.demands.specs.Reached.{after as reach}
 use Rattle.detector.specs.Stuck.{stuckCount, edgeCount}
 use Rattle.transcript.specs.Lines.{lineFeed}
 use Rattle.transcript.specs.Replay.{Run, limit, lastText, after, textOf}
-use Rattle.transcript.specs.Chunks.{Mid, mid, step, said, fed, says, ends, lastLine, OpenLine}
-use Rattle.transcript.specs.Code.{runOf, midOf, Begins, Kept, between, Turns, Feeds}
+use Rattle.transcript.specs.Chunks.{carrySize, Mid, mid, step, said, fed, says, ends, lastLine, OpenLine}
+use Rattle.transcript.specs.Code.{runOf, midOf, Begins, Kept, between, Feeds}
 use Rattle.transcript.specs.declared.run.Run as code
 use Rattle.transcript.specs.declared.run.Turned.{Turned}
 use Rattle.transcript.proofs.Text.{fed-append, says-append, text-full}
+use Rattle.transcript.proofs.Turning.{Turns}
 
 -- ---- between two turns
 
@@ -40,7 +41,8 @@ pub record Going (m : Mid) (chunk : List ℕ) (from : ℕ) (out : List ℕ) (at 
   pub after : midOf r carry ≡ fed m (between from i chunk)
   pub text : Put out at (says m (between from i chunk)) out′ to
   pub place : to ≤ length out
-  pub short : to ≤ at + answerRoom * (i - from)
+  pub up : m .run .lines ≤ r .lines
+  pub short : to ≤ at + answerRoom * (r .lines - m .run .lines)
 
 pub going-none : (chunk : List ℕ) (from : ℕ) (out : List ℕ) (at : ℕ) (carry : List ℕ) (r : code.Run) → Kept r carry → from ≤ length chunk → at ≤ length out
     → Going (midOf r carry) chunk from out at carry out r from at
@@ -53,36 +55,40 @@ going-none chunk from out at carry r k h w =
       after = sym (ap (fed (midOf r carry)) (slice-empty from chunk));
       text = subst (λ (s : List ℕ). Put out at s out at) (sym (ap (says (midOf r carry)) (slice-empty from chunk))) (record { bytes = refl; place = omega arith });
       place = w;
+      up = omega arith;
       short = omega arith;
     }
 
 module _ {m : Mid} {chunk : List ℕ} {from : ℕ} {out : List ℕ} {at : ℕ} {carry out′ : List ℕ} {r : code.Run} {i to : ℕ} (g : Going m chunk from out at carry out′ r i to) where
   pub going-turn : (t : Turned) (carry″ out″ : List ℕ) → to + answerRoom ≤ length out → Turns r carry chunk i out′ to t carry″ out″ → Going m chunk from out at carry″ out″ (t .run) (t .next) (t .at)
   going-turn t carry″ out″ w s =
-      let cut : between from (t .next) chunk ≡ between from i chunk ++ between i (t .next) chunk = between-on from i (t .next) chunk (g .onward) (omega (arith, s .onward)) (s .inside) in
+      let cut : between from (t .next) chunk ≡ between from i chunk ++ between i (t .next) chunk = between-on from i (t .next) chunk (g .onward) (s .moves .onward) (s .moves .inside) in
       record {
-        kept = s .kept;
-        onward = omega (arith, g .onward, s .onward);
-        inside = s .inside;
-        after = s .after ∙ ap (λ (n : Mid). fed n (between i (t .next) chunk)) (g .after) ∙ sym (fed-append m (between from i chunk) (between i (t .next) chunk)) ∙ sym (ap (fed m) cut);
+        kept = s .moves .kept;
+        onward = omega (arith, g .onward, s .moves .onward);
+        inside = s .moves .inside;
+        after = s .moves .after ∙ ap (λ (n : Mid). fed n (between i (t .next) chunk)) (g .after) ∙ sym (fed-append m (between from i chunk) (between i (t .next) chunk)) ∙ sym (ap (fed m) cut);
         text = subst (λ (z : List ℕ). Put out at z out″ (t .at))
             (ap (λ (n : Mid). says m (between from i chunk) ++ says n (between i (t .next) chunk)) (g .after) ∙ sym (says-append m (between from i chunk) (between i (t .next) chunk)) ∙ sym (ap (says m) cut))
             (then (g .text) (s .text));
         place = omega (arith, s .place);
-        short = omega (arith, s .place, s .onward, g .onward, g .short);
+        up = omega (arith, s .up, g .up);
+        short = omega (arith, s .short, s .up, g .up, g .short);
       }
 
   pub going-done : (i < length chunk → r .lines < limit → length out < to + answerRoom) → (r₀ : code.Run) (carry₀ : List ℕ) → m ≡ midOf r₀ carry₀
       → Feeds r₀ carry₀ chunk from out at (record { run = r; next = i; at = to }) carry out′
   going-done h r₀ carry₀ e =
       record {
-        kept = g .kept;
-        onward = g .onward;
-        inside = g .inside;
-        after = g .after ∙ ap (λ (n : Mid). fed n (between from i chunk)) e;
+        moves = record {
+          kept = g .kept;
+          onward = g .onward;
+          inside = g .inside;
+          after = g .after ∙ ap (λ (n : Mid). fed n (between from i chunk)) e;
+        };
         text = subst (λ (n : Mid). Put out at (says n (between from i chunk)) out′ to) e (g .text);
         place = g .place;
-        short = g .short;
+        short = omega (arith, g .short, ap (λ (n : Mid). n .run .lines) e);
         stops = h;
       }
 
@@ -93,10 +99,10 @@ unfolding fed says
 feeds-move {r} {carry} {chunk} {from} {out} {at} {t} {carry′} {out′} f h k w = go (ℕ-discrete from (t .next))
   where
     go : Dec (from ≡ t .next) → from < t .next
-    go (no n) = omega (arith, n, f .onward)
+    go (no n) = omega (arith, n, f .moves .onward)
     go (yes e) =
         let cut : between from (t .next) chunk ≡ [] = ap (λ (j : ℕ). between from j chunk) (sym e) ∙ slice-empty from chunk in
-        let same : t .run .lines ≡ r .lines = ap (λ (m : Mid). m .run .lines) (f .after ∙ ap (fed (midOf r carry)) cut) in
+        let same : t .run .lines ≡ r .lines = ap (λ (m : Mid). m .run .lines) (f .moves .after ∙ ap (fed (midOf r carry)) cut) in
         let here : t .at ≡ at + length (says (midOf r carry) []) = f .text .place ∙ ap (λ (z : List ℕ). at + length (says (midOf r carry) z)) cut in
         absurd (omega (arith, f .stops (omega arith) (omega arith), here))
 
@@ -138,5 +144,5 @@ begins d e v =
       have = refl;
     }
 
-pub begins-kept : {r : code.Run} {carry : List ℕ} → Begins r → length carry ≡ 41 → Kept r carry
+pub begins-kept : {r : code.Run} {carry : List ℕ} → Begins r → length carry ≡ carrySize → Kept r carry
 begins-kept b h = record { good = b .good; lines = omega (arith, ap (λ (u : Run). u .lines) (b .run)); have = omega (arith, b .have); long = h }

@@ -13,7 +13,7 @@ use Rattle.script.proofs.Steps.{line-cut}
 use Rattle.detector.specs.Tables.{Tables}
 use Rattle.transcript.specs.Lines.{lineFeed, linesOf}
 use Rattle.transcript.specs.Replay.{Run, limit, begun, lineResult, resultOf, after, lineText, lastText, textOf, replayText}
-use Rattle.transcript.specs.Chunks.{Mid, mid, start, step, said, fed, says, lastLine, ends, fedAll, saysAll, joined, TextTheorem}
+use Rattle.transcript.specs.Chunks.{carrySize, Mid, mid, start, step, said, fed, says, lastLine, ends, fedAll, saysAll, joined, TextTheorem}
 
 -- ---- feeding a and then b is feeding a ++ b
 
@@ -37,20 +37,20 @@ unfolding saysAll says joined
 says-joined m [] = refl
 says-joined m (t ∷ ts) = ap (λ (x : List ℕ). says m t ++ x) (says-joined (fed m t) ts) ∙ sym (says-append m t (joined ts))
 
--- ---- a line cut at 41 bytes answers as the whole line
+-- ---- a line cut where the carry ends answers as the whole line
 
-pub cut-result : (x : Tables) (p : List ℕ) → resultOf x (take 41 p) ≡ resultOf x p
+pub cut-result : (x : Tables) (p : List ℕ) → resultOf x (take carrySize p) ≡ resultOf x p
 unfolding resultOf
 cut-result x p = ap (lineResult x) (line-cut p)
 
-more-pick : (t : Bool) (p x : List ℕ) → leb (length p) 41 ≡ t → take 41 (take 41 p ++ x) ≡ take 41 (p ++ x)
-more-pick true p x e = rw (take-all 41 p (leb-true (length p) 41 e))
+more-pick : (t : Bool) (p x : List ℕ) → leb (length p) carrySize ≡ t → take carrySize (take carrySize p ++ x) ≡ take carrySize (p ++ x)
+more-pick true p x e = rw (take-all carrySize p (leb-true (length p) carrySize e))
 more-pick false p x e =
-    let h : 41 < length p = leb-false (length p) 41 e in
-    take-append-le 41 (take 41 p) x (omega (arith, length-take 41 p)) ∙ take-take 41 41 p (omega arith) ∙ sym (take-append-le 41 p x (omega arith))
+    let h : carrySize < length p = leb-false (length p) carrySize e in
+    take-append-le carrySize (take carrySize p) x (omega (arith, length-take carrySize p)) ∙ take-take carrySize carrySize p (omega arith) ∙ sym (take-append-le carrySize p x (omega arith))
 
-pub cut-more : (p x : List ℕ) → take 41 (take 41 p ++ x) ≡ take 41 (p ++ x)
-cut-more p x = more-pick (leb (length p) 41) p x refl
+pub cut-more : (p x : List ℕ) → take carrySize (take carrySize p ++ x) ≡ take carrySize (p ++ x)
+cut-more p x = more-pick (leb (length p) carrySize) p x refl
 
 -- ---- the lines of a text behind the line so far
 
@@ -82,16 +82,16 @@ text-line : (r : Run) (l : List ℕ) (ls : List (List ℕ)) → ltb (r .lines) l
 unfolding textOf
 text-line r l ls e = rw e
 
-text-cut : (r : Run) (p : List ℕ) → textOf r (lastLine (take 41 p)) ≡ textOf r (lastLine p)
+text-cut : (r : Run) (p : List ℕ) → textOf r (lastLine (take carrySize p)) ≡ textOf r (lastLine p)
 unfolding textOf lineText after
 text-cut r [] = refl
 text-cut r (b ∷ p) = rw (cut-result (r .tables) (b ∷ p))
 
 Whole : List ℕ → Type 0
-Whole t = (p : List ℕ) (r : Run) → says (mid (take 41 p) r) t ++ ends (fed (mid (take 41 p) r) t) ≡ textOf r (before p (linesOf t))
+Whole t = (p : List ℕ) (r : Run) → says (mid (take carrySize p) r) t ++ ends (fed (mid (take carrySize p) r) t) ≡ textOf r (before p (linesOf t))
 
 whole-byte : (full feed : Bool) (b : ℕ) (t : List ℕ) (p : List ℕ) (r : Run) → ltb (r .lines) limit ≡ full → eqb b lineFeed ≡ feed → Whole t
-    → says (mid (take 41 p) r) (b ∷ t) ++ ends (fed (mid (take 41 p) r) (b ∷ t)) ≡ textOf r (before p (linesOf (b ∷ t)))
+    → says (mid (take carrySize p) r) (b ∷ t) ++ ends (fed (mid (take carrySize p) r) (b ∷ t)) ≡ textOf r (before p (linesOf (b ∷ t)))
 unfolding Whole says said step fed linesOf lineText after
 whole-byte false feed b t p r e f ih = rw e (ih p r ∙ text-full r _ e ∙ sym (text-full r _ e))
 whole-byte true true b t p r e f ih =

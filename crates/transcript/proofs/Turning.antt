@@ -2,7 +2,7 @@
 use mathlib.Core.Path.{_≡_, refl, sym, ap, ap₂, _∙_, subst}
 use mathlib.Core.Bool.{Bool, true, false, cond}
 use mathlib.Core.List.{List, [], _∷_, _++_, append-nil}
-use Prim.Native.Nat.{ℕ, suc, _+_, _-_, _<_, _≤_, _^_}
+use Prim.Native.Nat.{ℕ, suc, _+_, _*_, _-_, _<_, _≤_, _^_}
 use native.Mathlib.Omega.{arith}
 use borrow.Author.Tests.{lt-ltb, eqb-true}
 use lib.Dec.{eqb, ltb}
@@ -13,6 +13,7 @@ use Rattle.script.specs.Lines.{lineOf}
 use Rattle.script.proofs.Cut.{take-upTo}
 use Rattle.detector.specs.Tables.{Tables}
 use Rattle.detector.specs.State.{tables}
+use Rattle.detector.specs.declared.state.Detector.{Detector}
 use Rattle.detector.specs.declared.reply.Answered.{Answered}
 use Rattle.answers.specs.Text.{Room, Put}
 use Rattle.answers.specs.Answers.{reports, replyText, cyclesText, answerText, Held, answerRoom}
@@ -22,10 +23,10 @@ use Rattle.detector.specs.declared.reply.Reply.{Reply}
 use Rattle.transcript.specs.Lines.{lineFeed}
 use Rattle.demands.specs.Reached.{room}
 use Rattle.transcript.specs.Replay.{Run, Result, limit, lineResult, resultOf, resultText, after, lineText}
-use Rattle.transcript.specs.Chunks.{Mid, mid, step, said, fed, says}
-use Rattle.transcript.specs.Code.{Good, Results, runOf, Kept, Turns, between}
+use Rattle.transcript.specs.Chunks.{carrySize, Mid, mid, step, said, fed, says}
+use Rattle.transcript.specs.Code.{Good, Results, runOf, midOf, Kept, between, Moves}
 use Rattle.transcript.specs.declared.run.Run as code
-use Rattle.transcript.specs.declared.answer.Told.{Told}
+use Rattle.transcript.specs.declared.run.Turned.{Turned}
 use Rattle.script.specs.declared.line.Line.{Line}
 use Rattle.transcript.proofs.Text.{fed-append, says-append, cut-result, cut-more}
 
@@ -63,18 +64,18 @@ piece-feed from e l h q w =
 
 -- ---- a part without a line feed is carried
 
-step-carry : (p : List ℕ) (b : ℕ) (r : Run) → ltb (r .lines) limit ≡ true → eqb b lineFeed ≡ false → step (mid (take 41 p) r) b ≡ mid (take 41 (p ++ (b ∷ []))) r
+step-carry : (p : List ℕ) (b : ℕ) (r : Run) → ltb (r .lines) limit ≡ true → eqb b lineFeed ≡ false → step (mid (take carrySize p) r) b ≡ mid (take carrySize (p ++ (b ∷ []))) r
 unfolding step
 step-carry p b r f e = rw (f, e) (ap (λ (z : List ℕ). mid z r) (cut-more p (b ∷ [])))
 
 fed-pick : (t : Bool) (b : ℕ) (y p : List ℕ) (r : Run) → eqb b lineFeed ≡ t → ltb (r .lines) limit ≡ true
-    → ((q : List ℕ) → fed (mid (take 41 q) r) (upTo lineFeed y) ≡ mid (take 41 (q ++ upTo lineFeed y)) r)
-    → fed (mid (take 41 p) r) (cond t [] (b ∷ upTo lineFeed y)) ≡ mid (take 41 (p ++ cond t [] (b ∷ upTo lineFeed y))) r
+    → ((q : List ℕ) → fed (mid (take carrySize q) r) (upTo lineFeed y) ≡ mid (take carrySize (q ++ upTo lineFeed y)) r)
+    → fed (mid (take carrySize p) r) (cond t [] (b ∷ upTo lineFeed y)) ≡ mid (take carrySize (p ++ cond t [] (b ∷ upTo lineFeed y))) r
 unfolding fed
 fed-pick true b y p r e f ih = rw (append-nil p)
-fed-pick false b y p r e f ih = ap (λ (m : Mid). fed m (upTo lineFeed y)) (step-carry p b r f e) ∙ ih (p ++ (b ∷ [])) ∙ ap (λ (z : List ℕ). mid (take 41 z) r) (append-snoc p b (upTo lineFeed y))
+fed-pick false b y p r e f ih = ap (λ (m : Mid). fed m (upTo lineFeed y)) (step-carry p b r f e) ∙ ih (p ++ (b ∷ [])) ∙ ap (λ (z : List ℕ). mid (take carrySize z) r) (append-snoc p b (upTo lineFeed y))
 
-pub fed-part : (y p : List ℕ) (r : Run) → ltb (r .lines) limit ≡ true → fed (mid (take 41 p) r) (upTo lineFeed y) ≡ mid (take 41 (p ++ upTo lineFeed y)) r
+pub fed-part : (y p : List ℕ) (r : Run) → ltb (r .lines) limit ≡ true → fed (mid (take carrySize p) r) (upTo lineFeed y) ≡ mid (take carrySize (p ++ upTo lineFeed y)) r
 unfolding fed upTo
 fed-part [] p r f = rw (append-nil p)
 fed-part (b ∷ y) p r f = fed-pick (eqb b lineFeed) b y p r refl f (λ q. fed-part y q r f)
@@ -97,26 +98,26 @@ says-part (b ∷ y) m = says-pick (eqb b lineFeed) b y m refl (says-part y)
 
 -- ---- a line feed ends the line
 
-after-cut : (r : Run) (p : List ℕ) → after r (take 41 p) ≡ after r p
+after-cut : (r : Run) (p : List ℕ) → after r (take carrySize p) ≡ after r p
 unfolding after
 after-cut r p = rw (cut-result (r .tables) p)
 
-text-cut : (r : Run) (p : List ℕ) → lineText r (take 41 p) ≡ lineText r p
+text-cut : (r : Run) (p : List ℕ) → lineText r (take carrySize p) ≡ lineText r p
 unfolding lineText
 text-cut r p = rw (cut-result (r .tables) p)
 
-fed-feed : (p : List ℕ) (r : Run) → ltb (r .lines) limit ≡ true → fed (mid (take 41 p) r) (lineFeed ∷ []) ≡ mid [] (after r p)
+fed-feed : (p : List ℕ) (r : Run) → ltb (r .lines) limit ≡ true → fed (mid (take carrySize p) r) (lineFeed ∷ []) ≡ mid [] (after r p)
 unfolding fed step
 fed-feed p r f = rw f (ap (mid []) (after-cut r p))
 
-says-feed : (p : List ℕ) (r : Run) → ltb (r .lines) limit ≡ true → says (mid (take 41 p) r) (lineFeed ∷ []) ≡ lineText r p
+says-feed : (p : List ℕ) (r : Run) → ltb (r .lines) limit ≡ true → says (mid (take carrySize p) r) (lineFeed ∷ []) ≡ lineText r p
 unfolding says said
-says-feed p r f = rw f (append-nil (lineText r (take 41 p)) ∙ text-cut r p)
+says-feed p r f = rw f (append-nil (lineText r (take carrySize p)) ∙ text-cut r p)
 
-module _ (have : ℕ) (carry : List ℕ) (r : Run) (small : have ≤ 41) (more : r .lines < limit) where
-  -- what is carried is no longer than 41
-  carried : take 41 (take have carry) ≡ take have carry
-  carried = take-all 41 (take have carry) (omega (arith, length-take have carry))
+module _ (have : ℕ) (carry : List ℕ) (r : Run) (small : have ≤ carrySize) (more : r .lines < limit) where
+  -- what is carried is cut already
+  carried : take carrySize (take have carry) ≡ take have carry
+  carried = take-all carrySize (take have carry) (omega (arith, length-take have carry))
 
   free : ltb (r .lines) limit ≡ true
   free = lt-ltb (r .lines) limit more
@@ -125,10 +126,10 @@ module _ (have : ℕ) (carry : List ℕ) (r : Run) (small : have ≤ 41) (more :
     abbrev part : List ℕ
     part = between from e chunk
 
-    pub part-fed : fed (mid (take have carry) r) part ≡ mid (take 41 (take have carry ++ part)) r
+    pub part-fed : fed (mid (take have carry) r) part ≡ mid (take carrySize (take have carry ++ part)) r
     part-fed =
-        subst (λ (q : List ℕ). fed (mid (take have carry) r) q ≡ mid (take 41 (take have carry ++ q)) r) (sym (piece from e chunk inside found))
-        (subst (λ (p : List ℕ). fed (mid p r) (upTo lineFeed (drop from chunk)) ≡ mid (take 41 (take have carry ++ upTo lineFeed (drop from chunk))) r) carried
+        subst (λ (q : List ℕ). fed (mid (take have carry) r) q ≡ mid (take carrySize (take have carry ++ q)) r) (sym (piece from e chunk inside found))
+        (subst (λ (p : List ℕ). fed (mid p r) (upTo lineFeed (drop from chunk)) ≡ mid (take carrySize (take have carry ++ upTo lineFeed (drop from chunk))) r) carried
         (fed-part (drop from chunk) (take have carry) r free))
 
     pub part-says : says (mid (take have carry) r) part ≡ []
@@ -173,44 +174,59 @@ pub text-line : (r : Run) (l : List ℕ) (n : ℕ) → n ≡ r .lines + 1 → re
 unfolding lineText resultOf
 text-line r l n e = ap (λ (m : ℕ). resultText m (lineResult (r .tables) (lineOf l))) e
 
--- ---- the turn's promise
+-- ---- a turn of the loop: one line, or what the chunk has of it
+
+pub record Turns (r : code.Run) (carry chunk : List ℕ) (from : ℕ) (out : List ℕ) (at : ℕ) (t : Turned) (carry′ out′ : List ℕ) : Type 0 where
+  pub moves : Moves r carry chunk from t carry′
+  pub text : Put out at (says (midOf r carry) (between from (t .next) chunk)) out′ (t .at)
+  pub up : r .lines ≤ t .run .lines
+  pub place : t .at ≤ at + answerRoom
+  pub short : t .at ≤ at + answerRoom * (t .run .lines - r .lines)
 
 -- the chunk ends before the line does
 pub carried-turn : (r : code.Run) (carry carry′ chunk out : List ℕ) (from e at h : ℕ) → Kept r carry → r .lines < limit → from < length chunk
     → (e ≡ from + length (upTo lineFeed (drop from chunk))) × (e ≤ length chunk) → e ≡ length chunk → length carry′ ≡ length carry
-    → (h ≤ 41) × (take h carry′ ≡ take 41 (take (r .have) carry ++ take (e - from) (drop from chunk)))
+    → (h ≤ carrySize) × (take h carry′ ≡ take carrySize (take (r .have) carry ++ take (e - from) (drop from chunk)))
     → Turns r carry chunk from out at (record { run = record { detector = r .detector; lines = r .lines; have = h }; next = e; at = at }) carry′ out
 carried-turn r carry carry′ chunk out from e at h k n i f q w p =
     let j : from ≤ length chunk = omega arith in
     record {
-      kept = record { good = k .good; lines = k .lines; have = p .0; long = w ∙ k .long };
-      onward = omega arith;
-      inside = f .1;
-      after = ap (λ (z : List ℕ). mid z (runOf r)) (p .1 ∙ ap (λ (z : List ℕ). take 41 (take (r .have) carry ++ z)) (slice-cut from e chunk j (omega (arith, f .0)))) ∙ sym (part-fed (r .have) carry (runOf r) (k .have) n chunk from e j (f .0));
+      moves = record {
+        kept = record { good = k .good; lines = k .lines; have = p .0; long = w ∙ k .long };
+        onward = omega (arith, f .0);
+        inside = f .1;
+        after = ap (λ (z : List ℕ). mid z (runOf r)) (p .1 ∙ ap (λ (z : List ℕ). take carrySize (take (r .have) carry ++ z)) (slice-cut from e chunk j (omega (arith, f .0)))) ∙ sym (part-fed (r .have) carry (runOf r) (k .have) n chunk from e j (f .0));
+      };
       text = subst (λ (z : List ℕ). Put out at z out at) (sym (part-says (r .have) carry (runOf r) (k .have) n chunk from e j (f .0))) (record { bytes = refl; place = omega arith });
+      up = omega arith;
       place = omega arith;
+      short = omega arith;
     }
 
 -- the line ends in the chunk
-pub line-turn : (r : code.Run) (carry carry′ chunk out out′ : List ℕ) (from e at : ℕ) (t : Told) (l : Line) → Kept r carry → r .lines < limit → from < length chunk
+pub line-turn : (r : code.Run) (carry carry′ chunk out out′ : List ℕ) (from e at to : ℕ) (d : Detector) (l : Line) → Kept r carry → r .lines < limit → from < length chunk
     → (e ≡ from + length (upTo lineFeed (drop from chunk))) × (e ≤ length chunk) → (e ≡ length chunk → ⊥) → length carry′ ≡ length carry
     → l ≡ lineOf (take (r .have) carry ++ take (e - from) (drop from chunk))
-    → Good (t .detector) × (tables (t .detector) ≡ lineResult (tables (r .detector)) l .tables) × Put out at (resultText (r .lines + 1) (lineResult (tables (r .detector)) l)) out′ (t .at) × (t .at ≤ at + answerRoom)
-    → Turns r carry chunk from out at (record { run = record { detector = t .detector; lines = r .lines + 1; have = 0 }; next = e + 1; at = t .at }) carry′ out′
-line-turn r carry carry′ chunk out out′ from e at t l k n i f q w c p =
+    → Good d × (tables d ≡ lineResult (tables (r .detector)) l .tables) × Put out at (resultText (r .lines + 1) (lineResult (tables (r .detector)) l)) out′ to × (to ≤ at + answerRoom)
+    → Turns r carry chunk from out at (record { run = record { detector = d; lines = r .lines + 1; have = 0 }; next = e + 1; at = to }) carry′ out′
+line-turn r carry carry′ chunk out out′ from e at to d l k n i f q w c p =
     let j : from ≤ length chunk = omega arith in
-    let d : l ≡ lineOf (take (r .have) carry ++ between from e chunk) = c ∙ ap (λ (z : List ℕ). lineOf (take (r .have) carry ++ z)) (slice-cut from e chunk j (omega (arith, f .0))) in
+    let u : l ≡ lineOf (take (r .have) carry ++ between from e chunk) = c ∙ ap (λ (z : List ℕ). lineOf (take (r .have) carry ++ z)) (slice-cut from e chunk j (omega (arith, f .0))) in
     let b : e < length chunk = omega arith in
     let line : List ℕ = take (r .have) carry ++ between from e chunk in
     record {
-      kept = record { good = p .0; lines = omega arith; have = omega arith; long = w ∙ k .long };
-      onward = omega arith;
-      inside = omega arith;
-      after = after-line (runOf r) line (tables (t .detector)) (r .lines + 1) refl (p .1 ∙ ap (λ (z : Line). lineResult (tables (r .detector)) z .tables) d)
-          ∙ sym (line-fed (r .have) carry (runOf r) (k .have) n chunk from e j (f .0) b);
-      text = subst (λ (z : List ℕ). Put out at z out′ (t .at))
-          (ap (λ (z : Line). resultText (r .lines + 1) (lineResult (tables (r .detector)) z)) d ∙ text-line (runOf r) line (r .lines + 1) refl
+      moves = record {
+        kept = record { good = p .0; lines = omega arith; have = omega arith; long = w ∙ k .long };
+        onward = omega (arith, f .0);
+        inside = omega arith;
+        after = after-line (runOf r) line (tables d) (r .lines + 1) refl (p .1 ∙ ap (λ (z : Line). lineResult (tables (r .detector)) z .tables) u)
+            ∙ sym (line-fed (r .have) carry (runOf r) (k .have) n chunk from e j (f .0) b);
+      };
+      text = subst (λ (z : List ℕ). Put out at z out′ to)
+          (ap (λ (z : Line). resultText (r .lines + 1) (lineResult (tables (r .detector)) z)) u ∙ text-line (runOf r) line (r .lines + 1) refl
           ∙ sym (line-says (r .have) carry (runOf r) (k .have) n chunk from e j (f .0) b))
           (p .2);
+      up = omega arith;
       place = p .3;
+      short = omega (arith, p .3);
     }

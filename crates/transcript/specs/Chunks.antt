@@ -1,5 +1,5 @@
--- THE SAME IN CHUNKS: a text may come in pieces of any size. Between two of them stand the line so far, of which 41 bytes tell
--- all that counts, and the run.
+-- THE SAME IN CHUNKS: a text may come in pieces of any size. Between two of them stand the line so far, of which its first bytes
+-- tell all that counts, and the run.
 use Prim.Native.Nat.{ℕ, _<_}
 use mathlib.Core.Path.{_≡_}
 use mathlib.Core.Bool.{cond}
@@ -8,6 +8,10 @@ use lib.Dec.{eqb, ltb}
 use lib.ListN.{take}
 use Rattle.transcript.specs.Lines.{lineFeed}
 use Rattle.transcript.specs.Replay.{Run, limit, begun, after, lineText, textOf, replayText}
+
+-- the bytes that are carried of a line: one more than a line may have tells that it is too long
+abbrev pub carrySize : ℕ
+carrySize = 41
 
 pub record Mid : Type 0 where
   pub part : List ℕ
@@ -23,7 +27,7 @@ start = mid [] begun
 unfoldable pub step : Mid → ℕ → Mid
 step m b =
     cond (ltb (m .run .lines) limit)
-    (cond (eqb b lineFeed) (mid [] (after (m .run) (m .part))) (mid (take 41 (m .part ++ (b ∷ []))) (m .run)))
+    (cond (eqb b lineFeed) (mid [] (after (m .run) (m .part))) (mid (take carrySize (m .part ++ (b ∷ []))) (m .run)))
     m
 
 unfoldable pub said : Mid → ℕ → List ℕ

@@ -12,7 +12,7 @@ use Rattle.answers.specs.Reports.{reportsIn, reportsSize}
 use Rattle.answers.specs.Answers.{reports, number, answerRoom}
 use Rattle.transcript.specs.Replay.{Result, limit, begun}
 use Rattle.transcript.specs.Replay as replay
-use Rattle.transcript.specs.Chunks.{Mid, mid, fed, says}
+use Rattle.transcript.specs.Chunks.{carrySize, Mid, mid, fed, says}
 use Rattle.transcript.specs.declared.run.Run.{Run}
 use Rattle.transcript.specs.declared.run.Turned.{Turned}
 
@@ -47,31 +47,25 @@ pub record Begins (r : Run) : Type 0 where
 pub record Kept (r : Run) (carry : List ℕ) : Type 0 where
   pub good : Good (r .detector)
   pub lines : r .lines ≤ limit
-  pub have : r .have ≤ 41
-  pub long : length carry ≡ 41
+  pub have : r .have ≤ carrySize
+  pub long : length carry ≡ carrySize
 
 -- the bytes of a chunk from one place to another
 abbrev pub between : ℕ → ℕ → List ℕ → List ℕ
 between from to c = drop from (take to c)
 
--- A TURN: from the run r to the run t .run over the bytes of the chunk up to t .next, of which at least one; and what is
--- printed for them
-pub record Turns (r : Run) (carry chunk : List ℕ) (from : ℕ) (out : List ℕ) (at : ℕ) (t : Turned) (carry′ out′ : List ℕ) : Type 0 where
-  pub kept : Kept (t .run) carry′
-  pub onward : from < t .next
-  pub inside : t .next ≤ length chunk
-  pub after : midOf (t .run) carry′ ≡ fed (midOf r carry) (between from (t .next) chunk)
-  pub text : Put out at (says (midOf r carry) (between from (t .next) chunk)) out′ (t .at)
-  pub place : t .at ≤ at + answerRoom
-
--- TURNS, one after the other, up to the chunk's end, the last line that is read, or where the longest answer has no room;
--- no byte prints more than the longest answer
-pub record Feeds (r : Run) (carry chunk : List ℕ) (from : ℕ) (out : List ℕ) (at : ℕ) (t : Turned) (carry′ out′ : List ℕ) : Type 0 where
+-- from the run r to the run t .run over the bytes of the chunk up to t .next
+pub record Moves (r : Run) (carry chunk : List ℕ) (from : ℕ) (t : Turned) (carry′ : List ℕ) : Type 0 where
   pub kept : Kept (t .run) carry′
   pub onward : from ≤ t .next
   pub inside : t .next ≤ length chunk
   pub after : midOf (t .run) carry′ ≡ fed (midOf r carry) (between from (t .next) chunk)
+
+-- line after line, up to the chunk's end, the last line that is read, or where the longest answer has no room; no line prints
+-- more than the longest answer
+pub record Feeds (r : Run) (carry chunk : List ℕ) (from : ℕ) (out : List ℕ) (at : ℕ) (t : Turned) (carry′ out′ : List ℕ) : Type 0 where
+  pub moves : Moves r carry chunk from t carry′
   pub text : Put out at (says (midOf r carry) (between from (t .next) chunk)) out′ (t .at)
   pub place : t .at ≤ length out
-  pub short : t .at ≤ at + answerRoom * (t .next - from)
+  pub short : t .at ≤ at + answerRoom * (t .run .lines - r .lines)
   pub stops : t .next < length chunk → t .run .lines < limit → length out < t .at + answerRoom

@@ -1,5 +1,4 @@
 // Text in chunks to text: the line that is not whole yet is carried, and each whole line is answered.
-mod answer;
 mod ending;
 mod lines;
 mod run;
@@ -12,4 +11,3 @@ pub use run::Run;
 pub use run::Turned;
 pub use run::begin;
 pub use run::feed;
-pub use run::take_turn;

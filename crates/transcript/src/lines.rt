@@ -8,6 +8,7 @@ ghost use lib.ListN.{length, take, drop};
 ghost use Rattle.script.specs.Fields.{upTo};
 ghost use Rattle.script.specs.Lines.{lineOf};
 ghost use Rattle.transcript.specs.Lines.{lineFeed};
+ghost use Rattle.transcript.specs.Chunks.{carrySize};
 
 // The bytes that are carried of a line: one more than a line may have tells that it is too long.
 pub const CARRY: usize = 41;
@@ -29,8 +30,8 @@ pub(crate) fn line_end(chunk: &[u8], from: usize) -> usize
 
 // The part goes behind what is carried, as far as there is room.
 pub(crate) fn keep(carry: &mut [u8], have: usize, part: &[u8]) -> usize
-    requires { ⌜ (length (now carry) ≡ 41) × (have ≤ 41) ⌝ }
-    ensures { λ r. ⌜ (r ≤ 41) × (take r (now (carry .exit)) ≡ take 41 (take have (now (carry .entry)) ++ now (part .entry))) ⌝ }
+    requires { ⌜ (length (now carry) ≡ carrySize) × (have ≤ carrySize) ⌝ }
+    ensures { λ r. ⌜ (r ≤ carrySize) × (take r (now (carry .exit)) ≡ take carrySize (take have (now (carry .entry)) ++ now (part .entry))) ⌝ }
 {
     let mut h = have;
     let mut i = 0;
@@ -47,7 +48,7 @@ pub(crate) fn keep(carry: &mut [u8], have: usize, part: &[u8]) -> usize
 
 // The line that ends with this part: the part alone where nothing is carried.
 pub(crate) fn line_of(carry: &mut [u8], have: usize, part: &[u8]) -> Line
-    requires { ⌜ (length (now carry) ≡ 41) × (have ≤ 41) ⌝ }
+    requires { ⌜ (length (now carry) ≡ carrySize) × (have ≤ carrySize) ⌝ }
     ensures { λ r. ⌜ r ≡ lineOf (take have (now (carry .entry)) ++ now (part .entry)) ⌝ }
 {
     if have == 0 {

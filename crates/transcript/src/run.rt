@@ -1,5 +1,4 @@
 // A script's run over a chunk, line by line, and its end.
-use crate::answer::tell_line;
 use crate::lines::keep;
 use crate::lines::line_end;
 use crate::lines::line_of;
@@ -10,12 +9,10 @@ use detector::Event;
 use detector::Reply;
 use script::Line;
 ghost use mathlib.Core.Path.{_≡_};
-ghost use Prim.Native.Nat.{_+_, _<_, _≤_};
+ghost use Prim.Native.Nat.{_≤_};
 ghost use lib.ListN.{length};
-ghost use Rattle.answers.specs.Answers.{answerRoom};
 ghost use Rattle.demands.specs.Reached.{room};
-ghost use Rattle.transcript.specs.Replay.{limit};
-ghost use Rattle.transcript.specs.Code.{Begins, Kept, Turns, Feeds};
+ghost use Rattle.transcript.specs.Code.{Begins, Kept, Feeds};
 
 // Lines behind this one are not read.
 pub const LIMIT: usize = 1000000;
@@ -39,55 +36,11 @@ pub fn begin() -> Run
     }
 }
 
-// The run after a turn, where the next one starts in the chunk, and the place behind what was printed.
+// The run after a part of the chunk, where the next one starts, and the place behind what was printed.
 pub struct Turned {
     pub run: Run,
     pub next: usize,
     pub at: usize,
-}
-
-// The line that starts at from is answered where it ends in the chunk, else carried.
-pub fn take_turn(
-    run: Run,
-    carry: &mut [u8],
-    chunk: &[u8],
-    from: usize,
-    out: &mut [u8],
-    at: usize,
-    buf: &mut [u8],
-) -> Turned
-    requires { ⌜ Kept run (now carry) × (run .lines < limit) × (length (now buf) ≡ room) ⌝ }
-    requires { ⌜ (from < length (now chunk)) × (at + answerRoom ≤ length (now out)) ⌝ }
-    ensures { λ r. ⌜ Turns run (now (carry .entry)) (now (chunk .entry)) from (now (out .entry)) at r (now (carry .exit)) (now (out .exit)) ⌝ }
-{
-    let s = run.detector;
-    let have = run.have;
-    let end = line_end(chunk, from);
-    if end == chunk.len() {
-        let h = keep(carry, have, &chunk[from..end]);
-        return Turned {
-            run: Run {
-                detector: s,
-                lines: run.lines,
-                have: h,
-            },
-            next: end,
-            at: at,
-        };
-    }
-    let line = line_of(carry, have, &chunk[from..end]);
-    let n = run.lines + 1;
-    let t = tell_line(s, n, line, out, at, buf);
-    let d = t.detector;
-    Turned {
-        run: Run {
-            detector: d,
-            lines: n,
-            have: 0,
-        },
-        next: end + 1,
-        at: t.at,
-    }
 }
 
 // Line after line, while the chunk has bytes, a line may be read and the longest answer has room. The dispatch on the

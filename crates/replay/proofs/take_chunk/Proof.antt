@@ -60,20 +60,20 @@ same-length-6 : tie.Need-same-length-6 Inv-loop μ-loop
 same-length-6 c = c .before .before .before .before .before .before .before .before .before .before .feed .kept .1 .1 .1 .1 .1 .1 .0 ∙ c .before .before .before .before .before .before .before .before .before .before .before .before .before .before .before .before .before .loop .inv .5
 
 returns-2 : tie.Need-returns-2 Inv-loop μ-loop
-returns-2 c = (c .before .before .before .before .before .before .before .before .before .before .feed .ensures .kept, λ e. absurd (false≢true e))
+returns-2 c = (c .before .before .before .before .before .before .before .before .before .before .feed .ensures .moves .kept, λ e. absurd (false≢true e))
 
 loop-less : tie.Need-loop-less Inv-loop μ-loop
 loop-less c =
     let f = c .before .before .before .before .before .before .before .before .before .before .feed .ensures in
     let v = c .before .before .before .before .before .before .before .before .before .before .before .before .before .before .before .before .before .loop .inv in
     let m = feeds-move f (c .before .before .before .before .before .before .before .before .before .before .before .before .before .before .before .before .loop-test .taken) (omega (arith, v .0 .kept .lines, c .before .before .before .before .before .before .before .before .before .before .before .before .before .before .if1 .left)) (omega (arith, v .1)) in
-    omega (arith, m, f .inside)
+    omega (arith, m, f .moves .inside)
 
 loop-again : tie.Need-loop-again Inv-loop μ-loop
 loop-again c =
     let f = c .before .before .before .before .before .before .before .before .before .before .feed in
     let v = c .before .before .before .before .before .before .before .before .before .before .before .before .before .before .before .before .before .loop .inv in (
-      taken-more (v .0) (f .ensures .kept) (f .ensures .onward) (f .ensures .inside) (f .ensures .after),
+      taken-more (v .0) (f .ensures .moves),
       f .kept .1 .1 .1 .1 .0 ∙ v .1,
       f .kept .1 .1 .1 .1 .1 .1 .0 ∙ v .2,
       f .kept .1 .0 ∙ v .3,

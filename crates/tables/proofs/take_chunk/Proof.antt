@@ -60,18 +60,18 @@ same-length-6 : tie.Need-same-length-6 Inv-loop μ-loop
 same-length-6 c = c .before .before .before .before .before .before .before .before .before .before .show-line .kept .1 .1 .1 .1 .1 .0 ∙ c .before .before .before .before .before .before .before .before .before .before .before .before .before .before .before .before .before .loop .inv .5
 
 returns-2 : tie.Need-returns-2 Inv-loop μ-loop
-returns-2 c = (c .before .before .before .before .before .before .before .before .before .before .show-line .ensures .kept, λ e. absurd (false≢true e))
+returns-2 c = (c .before .before .before .before .before .before .before .before .before .before .show-line .ensures .moves .kept, λ e. absurd (false≢true e))
 
 loop-less : tie.Need-loop-less Inv-loop μ-loop
 loop-less c =
     let f = c .before .before .before .before .before .before .before .before .before .before .show-line .ensures in
-    omega (arith, f .onward, f .inside)
+    omega (arith, f .onward, f .moves .inside)
 
 loop-again : tie.Need-loop-again Inv-loop μ-loop
 loop-again c =
     let f = c .before .before .before .before .before .before .before .before .before .before .show-line in
     let v = c .before .before .before .before .before .before .before .before .before .before .before .before .before .before .before .before .before .loop .inv in (
-      taken-more (v .0) (f .ensures .kept) (omega (arith, f .ensures .onward)) (f .ensures .inside) (f .ensures .after),
+      taken-more (v .0) (f .ensures .moves),
       f .kept .1 .1 .1 .1 .0 ∙ v .1,
       f .kept .1 .1 .1 .1 .1 .0 ∙ v .2,
       f .kept .1 .0 ∙ v .3,

@@ -39,7 +39,7 @@ show-line-requires c κs =
 put-sums-requires-3 : tie.Need-put-sums-requires-3
 put-sums-requires-3 c κs =
     let t = c .before .before .before .before .before .before .before .before .before .show-line in
-    (t .ensures .kept .good .valid, t .ensures .kept .lines, omega (arith, t .ensures .place, t .kept .1 .1 .1 .1 .0, c .before .before .before .before .before .before .before .before .before .before .before .before .before .before .before .before .before .before .before .before .before .before .pre .1))
+    (t .ensures .moves .kept .good .valid, t .ensures .moves .kept .lines, omega (arith, t .ensures .place, t .kept .1 .1 .1 .1 .0, c .before .before .before .before .before .before .before .before .before .before .before .before .before .before .before .before .before .before .before .before .before .before .pre .1))
 
 same-length-3 : tie.Need-same-length-3
 same-length-3 c = search needs

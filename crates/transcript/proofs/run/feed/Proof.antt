@@ -332,7 +332,7 @@ loop-again c =
     let r = c .before .before .before .before .before .before .before .before .line-of in
     let t = told-line _ _ _ _ (omega (arith, v .0 .kept .lines)) (m .bytes) (m .results) _ _ _ _ (p .ensures) in (
       going-turn (v .0) _ _ _ (omega (arith, c .before .before .before .before .before .before .before .before .before .before .before .before .before .if2 .left, v .0 .place, v .4))
-          (line-turn (record { detector = l .s; lines = l .n; have = l .h }) (l .carry) (r .last .0) _ (l .out) (p .last .0) (l .i) (f .result) (l .to) (record { detector = c .before .before .before .before .before .match .s; at = p .result }) (r .result)
+          (line-turn (record { detector = l .s; lines = l .n; have = l .h }) (l .carry) (r .last .0) _ (l .out) (p .last .0) (l .i) (f .result) (l .to) (p .result) (c .before .before .before .before .before .match .s) (r .result)
           (v .0 .kept) (omega (arith, v .0 .kept .lines, c .before .before .before .before .before .before .before .before .before .before .before .before .before .before .if1 .left)) (c .before .before .before .before .before .before .before .before .before .before .before .before .before .before .before .loop-test .taken) (f .ensures) (c .before .before .before .before .before .before .before .before .before .before .before .if3 .left) (r .kept .0) (r .ensures) t),
       m .long ∙ v .1,
       m .bytes,
