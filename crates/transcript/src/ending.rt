@@ -14,7 +14,7 @@ ghost use Rattle.transcript.specs.Chunks.{ends};
 ghost use Rattle.transcript.specs.Code.{Kept, midOf};
 
 // Lines, edges stored, stuck threads.
-pub fn put_sums(detector: Detector, lines: usize, out: &mut [u8], at: usize) -> usize
+fn put_sums(detector: Detector, lines: usize, out: &mut [u8], at: usize) -> usize
     requires { ⌜ Valid detector × (lines ≤ limit) × (at + endRoom ≤ length (now out)) ⌝ }
     ensures { λ r. ⌜ Put (now (out .entry)) at (lastText (record { lines = lines; tables = tables detector })) (now (out .exit)) r × (r ≤ at + endRoom) ⌝ }
 {

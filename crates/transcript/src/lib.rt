@@ -4,7 +4,6 @@ mod lines;
 mod run;
 
 pub use ending::finish;
-pub use ending::put_sums;
 pub use lines::CARRY;
 pub use run::LIMIT;
 pub use run::Run;

@@ -1,0 +1,280 @@
+-- A part of a text: what is printed for it. With tables one line ends in it at most, and its tables stand behind its answer.
+use mathlib.Core.Path.{_≡_, refl, sym, ap, ap₂, _∙_, subst}
+use mathlib.Core.Logic.{_⊎_, inl, inr}
+use mathlib.Core.Bool.{Bool, true, false, false≢true, cond}
+use mathlib.Core.List.{List, [], _∷_, _++_, append-nil}
+use Prim.Native.Nat.{ℕ, suc, _+_, _<_, _≤_}
+use native.Mathlib.Omega.{arith}
+use native.Mathlib.Numerals.{add-one}
+use borrow.Author.Tests.{ne-eqb, lt-ltb, le-ltb}
+use lib.Dec.{eqb, ltb}
+use lib.ListN.{length, take, drop, getD, take-append-drop}
+use lib.Seq.{slice-empty, take-take, take-suc, drop-append-le, length-take-le}
+use Rattle.answers.specs.Text.{Put}
+use Rattle.answers.specs.Answers.{answerRoom}
+use Rattle.answers.proofs.Puts.{then}
+use Rattle.detector.specs.Tables.{Tables}
+use Rattle.detector.specs.State.{tables as tables-of}
+use Rattle.listing.specs.Listing.{tablesText}
+use Rattle.listing.specs.Code.{tablesRoom}
+use Rattle.transcript.specs.Lines.{lineFeed}
+use Rattle.transcript.specs.Replay.{Run, limit, after, lineText, lastText}
+use Rattle.transcript.specs.Chunks.{Mid, mid, step, said, fed, says, ends, lastLine}
+use Rattle.transcript.specs.Code.{runOf, midOf, between, Moves, Feeds}
+use Rattle.transcript.specs.declared.run.Run as code
+use Rattle.transcript.specs.declared.run.Turned.{Turned}
+use Rattle.transcript.proofs.Feeding.{feeds-move, ends-closed}
+use Rattle.runner.specs.Shown.{lineShown, shownOf, shown, shows, closes, OpenShown}
+use Rattle.runner.specs.Code.{space, prints, printsLast, lineEnds, Part, Puts}
+
+-- ---- a byte ends no line that is read, or it ends one
+
+record Idle (m : Mid) (b : ℕ) : Type 0 where
+  run : step m b .run ≡ m .run
+  says : said m b ≡ []
+  shows : shown m b ≡ []
+
+record Ends (m : Mid) (b : ℕ) : Type 0 where
+  feed : eqb b lineFeed ≡ true
+  run : step m b .run ≡ after (m .run) (m .part)
+  says : said m b ≡ lineText (m .run) (m .part)
+  shows : shown m b ≡ lineShown (m .run) (m .part)
+
+byte-pick : {X : Type 0} (free feed : Bool) (m : Mid) (b : ℕ) → ltb (m .run .lines) limit ≡ free → eqb b lineFeed ≡ feed → (Idle m b → X) → (Ends m b → X) → X
+unfolding step said shown
+byte-pick false feed m b e f i l = i (record { run = rw e refl; says = rw e refl; shows = rw e refl })
+byte-pick true false m b e f i l = i (record { run = rw (e, f) refl; says = rw (e, f) refl; shows = rw (e, f) refl })
+byte-pick true true m b e f i l = l (record { feed = f; run = rw (e, f) refl; says = rw (e, f) refl; shows = rw (e, f) refl })
+
+byte : {X : Type 0} (m : Mid) (b : ℕ) → (Idle m b → X) → (Ends m b → X) → X
+byte m b = byte-pick (ltb (m .run .lines) limit) (eqb b lineFeed) m b refl refl
+
+idle-lines : {m : Mid} {b : ℕ} → Idle m b → step m b .run .lines ≡ m .run .lines
+idle-lines i = ap (λ (r : Run). r .lines) (i .run)
+
+ends-lines : {m : Mid} {b : ℕ} → Ends m b → step m b .run .lines ≡ m .run .lines + 1
+unfolding after
+ends-lines l = ap (λ (r : Run). r .lines) (l .run)
+
+-- ---- how many lines are read
+
+lines-up : (m : Mid) (t : List ℕ) → m .run .lines ≤ fed m t .run .lines
+unfolding fed
+lines-up m [] = omega arith
+lines-up m (b ∷ t) =
+    let n : step m b .run .lines ≤ fed (step m b) t .run .lines = lines-up (step m b) t in
+    byte m b (λ i. omega (arith, n, idle-lines i)) (λ l. omega (arith, n, ends-lines l))
+
+line-ends-pick : (f : Bool) (b : ℕ) (t : List ℕ) → eqb b lineFeed ≡ f → lineEnds t ≤ lineEnds (b ∷ t)
+unfolding lineEnds
+line-ends-pick true b t e = rw e (omega arith)
+line-ends-pick false b t e = rw e (omega arith)
+
+line-ends-feed : (b : ℕ) (t : List ℕ) → eqb b lineFeed ≡ true → lineEnds (b ∷ t) ≡ suc (lineEnds t)
+unfolding lineEnds
+line-ends-feed b t e = rw e refl
+
+lines-few : (m : Mid) (t : List ℕ) → fed m t .run .lines ≤ m .run .lines + lineEnds t
+unfolding fed
+lines-few m [] = omega arith
+lines-few m (b ∷ t) =
+    let n : fed (step m b) t .run .lines ≤ step m b .run .lines + lineEnds t = lines-few (step m b) t in
+    byte m b
+    (λ i. omega (arith, n, idle-lines i, line-ends-pick (eqb b lineFeed) b t refl))
+    (λ l. omega (arith, n, ends-lines l, line-ends-feed b t (l .feed)))
+
+line-ends-first : (a b : List ℕ) → lineEnds a ≤ lineEnds (a ++ b)
+unfolding lineEnds
+line-ends-first [] b = omega arith
+line-ends-first (x ∷ a) b = go (eqb x lineFeed) (line-ends-first a b)
+  where
+    go : (f : Bool) → lineEnds a ≤ lineEnds (a ++ b) → cond f (suc (lineEnds a)) (lineEnds a) ≤ cond f (suc (lineEnds (a ++ b))) (lineEnds (a ++ b))
+    go true h = omega arith
+    go false h = h
+
+-- ---- a part of a chunk, byte by byte
+
+pub line-ends-more : (a : List ℕ) (b : ℕ) → lineEnds (a ++ (b ∷ [])) ≡ lineEnds a + lineEnds (b ∷ [])
+unfolding lineEnds
+line-ends-more [] b = omega arith
+line-ends-more (x ∷ a) b = go (eqb x lineFeed) (line-ends-more a b)
+  where
+    go : (f : Bool) → lineEnds (a ++ (b ∷ [])) ≡ lineEnds a + lineEnds (b ∷ []) → cond f (suc (lineEnds (a ++ (b ∷ [])))) (lineEnds (a ++ (b ∷ []))) ≡ cond f (suc (lineEnds a)) (lineEnds a) + lineEnds (b ∷ [])
+    go true h = omega arith
+    go false h = h
+
+line-ends-byte : (b : ℕ) → lineEnds (b ∷ []) ≤ 1
+unfolding lineEnds
+line-ends-byte b = go (eqb b lineFeed)
+  where
+    go : (f : Bool) → cond f 1 0 ≤ 1
+    go true = omega arith
+    go false = omega arith
+
+line-ends-other : (b : ℕ) → (b ≡ lineFeed → ⊥) → lineEnds (b ∷ []) ≡ 0
+unfolding lineEnds
+line-ends-other b n = rw (ne-eqb b lineFeed n) refl
+
+between-more : (l : List ℕ) (from i : ℕ) → from ≤ i → i < length l → between from (i + 1) l ≡ between from i l ++ (getD l i 0 ∷ [])
+between-more l from i h w =
+    ap (drop from) (rw add-one (take-suc l i 0 w)) ∙ drop-append-le from (take i l) (getD l i 0 ∷ []) (omega (arith, length-take-le i l (omega arith)))
+
+-- no line ends in the part of the chunk so far
+pub record NoLine (chunk : List ℕ) (from i : ℕ) : Type 0 where
+  pub onward : from ≤ i
+  pub inside : i ≤ length chunk
+  pub none : lineEnds (between from i chunk) ≡ 0
+
+pub no-line : (chunk : List ℕ) (from : ℕ) → from < length chunk → NoLine chunk from from
+unfolding lineEnds
+no-line chunk from h = record { onward = omega arith; inside = omega arith; none = ap lineEnds (slice-empty from chunk) }
+
+module _ {chunk : List ℕ} {from i : ℕ} (g : NoLine chunk from i) where
+  pub no-line-more : i < length chunk → (getD chunk i 0 ≡ lineFeed → ⊥) → NoLine chunk from (i + 1)
+  no-line-more h n =
+      record {
+        onward = omega (arith, g .onward);
+        inside = omega arith;
+        none = ap lineEnds (between-more chunk from i (g .onward) h) ∙ line-ends-more (between from i chunk) (getD chunk i 0) ∙ omega (arith, g .none, line-ends-other (getD chunk i 0) n);
+      }
+
+  pub line-ended : {tables : Bool} → i < length chunk → Part tables chunk from (i + 1)
+  line-ended h =
+      record {
+        onward = omega (arith, g .onward);
+        inside = omega arith;
+        one = λ _. omega (
+          arith,
+          ap lineEnds (between-more chunk from i (g .onward) h),
+          line-ends-more (between from i chunk) (getD chunk i 0),
+          g .none,
+          line-ends-byte (getD chunk i 0),
+        );
+      }
+
+  pub chunk-ended : {tables : Bool} → from < length chunk → length chunk ≤ i → Part tables chunk from i
+  chunk-ended w h = record { onward = omega arith; inside = g .inside; one = λ _. omega (arith, g .none) }
+
+-- ---- what is printed where no line is read, and where one is
+
+record Quiet (m : Mid) (t : List ℕ) : Type 0 where
+  run : fed m t .run ≡ m .run
+  says : says m t ≡ []
+  shows : shows m t ≡ []
+
+quiet : (m : Mid) (t : List ℕ) → fed m t .run .lines ≡ m .run .lines → Quiet m t
+unfolding fed says shows
+quiet m [] e = record { run = refl; says = refl; shows = refl }
+quiet m (b ∷ t) e = byte m b (λ i. go i (quiet (step m b) t (e ∙ sym (idle-lines i)))) (λ l. absurd (omega (arith, lines-up (step m b) t, ends-lines l)))
+  where
+    go : Idle m b → Quiet (step m b) t → Quiet m (b ∷ t)
+    go i q =
+        record {
+          run = q .run ∙ i .run;
+          says = ap₂ (λ (x y : List ℕ). x ++ y) (i .says) (q .says);
+          shows = ap₂ (λ (x y : List ℕ). x ++ y) (i .shows) (q .shows);
+        }
+
+single : (m : Mid) (t : List ℕ) → fed m t .run .lines ≡ m .run .lines + 1 → shows m t ≡ says m t ++ tablesText (fed m t .run .tables)
+unfolding fed says shows lineShown
+single m [] e = absurd (omega arith)
+single m (b ∷ t) e = byte m b
+    (λ i. rw (i .says, i .shows) (single (step m b) t (e ∙ ap (λ (n : ℕ). n + 1) (sym (idle-lines i)))))
+    (λ l. go l (quiet (step m b) t (e ∙ sym (ends-lines l))))
+  where
+    go : Ends m b → Quiet (step m b) t → shown m b ++ shows (step m b) t ≡ (said m b ++ says (step m b) t) ++ tablesText (fed (step m b) t .run .tables)
+    go l q =
+        rw (l .says, l .shows, q .says, q .shows, q .run, l .run)
+        (append-nil (lineShown (m .run) (m .part)) ∙ ap (λ (x : List ℕ). x ++ tablesText (after (m .run) (m .part) .tables)) (sym (append-nil (lineText (m .run) (m .part)))))
+
+-- ---- a call of feed over a part
+
+-- the whole chunk, without tables
+pub whole-part : {tables : Bool} (chunk : List ℕ) (from : ℕ) → tables ≡ false → from < length chunk → Part tables chunk from (length chunk)
+whole-part chunk from e h = record { onward = h; inside = omega arith; one = λ t. absurd (false≢true (sym e ∙ t)) }
+
+module _ {tables : Bool} {r : code.Run} {carry chunk : List ℕ} {from e : ℕ} {out : List ℕ} {t : Turned} {carry′ out′ : List ℕ} (o : Part tables chunk from e) (s : Feeds r carry (take e chunk) from out 0 t carry′ out′) (more : r .lines < limit) (room : length out ≡ space) where
+  ahead : t .next ≤ e
+  ahead = omega (arith, s .moves .inside, length-take-le e chunk (o .inside))
+
+  onward : from < t .next
+  onward = feeds-move s (omega (arith, o .onward, length-take-le e chunk (o .inside))) more (omega (arith, room))
+
+  abbrev part : List ℕ
+  part = between from (t .next) chunk
+
+  cut : between from (t .next) (take e chunk) ≡ part
+  cut = ap (drop from) (take-take (t .next) e chunk ahead)
+
+  moves : Moves r carry chunk from t carry′
+  moves = record { kept = s .moves .kept; onward = s .moves .onward; inside = omega (arith, ahead, o .inside); after = s .moves .after ∙ ap (fed (midOf r carry)) cut }
+
+  put : Put out 0 (says (midOf r carry) part) out′ (t .at)
+  put = subst (λ (z : List ℕ). Put out 0 (says (midOf r carry) z) out′ (t .at)) cut (s .text)
+
+  pub puts-plain : tables ≡ false → Puts tables r carry chunk from out t carry′ out′
+  puts-plain plain = record { moves = moves; onward = onward; text = subst (λ (z : Bool). Put out 0 (prints z (midOf r carry) part) out′ (t .at)) (sym plain) put; place = omega (arith, s .place, room) }
+
+  module _ (asked : tables ≡ true) where
+    lead : between from e chunk ≡ part ++ drop (t .next) (take e chunk)
+    lead =
+        ap (drop from) (sym (take-append-drop (t .next) (take e chunk)) ∙ ap (λ (x : List ℕ). x ++ drop (t .next) (take e chunk)) (take-take (t .next) e chunk ahead))
+        ∙ drop-append-le from (take (t .next) chunk) (drop (t .next) (take e chunk)) (omega (arith, onward, length-take-le (t .next) chunk (omega (arith, ahead, o .inside))))
+
+    few : lineEnds part ≤ 1
+    few = omega (arith, o .one asked, line-ends-first part (drop (t .next) (take e chunk)), ap lineEnds lead)
+
+    count : t .run .lines ≡ fed (midOf r carry) part .run .lines
+    count = ap (λ (m : Mid). m .run .lines) (moves .after)
+
+    grown : t .run .lines ≤ r .lines + 1
+    grown = omega (arith, count, few, lines-few (midOf r carry) part)
+
+    pub short : t .at ≤ answerRoom
+    short = omega (arith, s .short, grown)
+
+    pub puts-none : t .run .lines ≡ r .lines → Puts tables r carry chunk from out t carry′ out′
+    puts-none same =
+        let q : Quiet (midOf r carry) part = quiet (midOf r carry) part (sym count ∙ same) in
+        let text : Put out 0 (shows (midOf r carry) part) out′ (t .at) = subst (λ (z : List ℕ). Put out 0 z out′ (t .at)) (q .says ∙ sym (q .shows)) put in
+        record { moves = moves; onward = onward; text = subst (λ (z : Bool). Put out 0 (prints z (midOf r carry) part) out′ (t .at)) (sym asked) text; place = omega (arith, short) }
+
+    pub puts-tables : (out″ : List ℕ) (to : ℕ) → (t .run .lines ≡ r .lines → ⊥) → Put out′ (t .at) (tablesText (tables-of (t .run .detector))) out″ to → to ≤ t .at + tablesRoom
+        → Puts tables r carry chunk from out (record { run = t .run; next = t .next; at = to }) carry′ out″
+    puts-tables out″ to other p w =
+        let one : fed (midOf r carry) part .run .lines ≡ r .lines + 1 = omega (arith, other, count, grown, lines-up (midOf r carry) part) in
+        let state : tables-of (t .run .detector) ≡ fed (midOf r carry) part .run .tables = ap (λ (m : Mid). m .run .tables) (moves .after) in
+        let text : Put out 0 (shows (midOf r carry) part) out″ to = subst (λ (z : List ℕ). Put out 0 z out″ to)
+        (ap (λ (x : Tables). says (midOf r carry) part ++ tablesText x) state ∙ sym (single (midOf r carry) part one))
+        (then put p) in
+        record {
+          moves = record { kept = moves .kept; onward = moves .onward; inside = moves .inside; after = moves .after };
+          onward = onward;
+          text = subst (λ (z : Bool). Put out 0 (prints z (midOf r carry) part) out″ to) (sym asked) text;
+          place = omega (arith, short, w);
+        }
+
+-- ---- the end
+
+pub shown-full : (r : Run) (ls : List (List ℕ)) → ltb (r .lines) limit ≡ false → shownOf r ls ≡ lastText r
+unfolding shownOf
+shown-full r [] e = refl
+shown-full r (l ∷ ls) e = rw e
+
+-- no line is left to answer
+pub closes-closed : (r : code.Run) (carry : List ℕ) → (r .have ≡ 0) ⊎ (r .lines ≡ limit) → closes (midOf r carry) ≡ lastText (runOf r)
+unfolding closes shownOf
+closes-closed r carry (inl e) = ap (λ (h : ℕ). shownOf (runOf r) (lastLine (take h carry))) e
+closes-closed r carry (inr e) = shown-full (runOf r) (lastLine (take (r .have) carry)) (le-ltb (r .lines) limit (omega arith))
+
+pub last-closed : (r : code.Run) (carry : List ℕ) → (r .have ≡ 0) ⊎ (r .lines ≡ limit) → (tables : Bool) → ends (midOf r carry) ≡ printsLast tables (midOf r carry)
+last-closed r carry h true = ends-closed r carry h ∙ sym (closes-closed r carry h)
+last-closed r carry h false = refl
+
+pub open-shown : OpenShown
+unfolding closes shownOf shows shown fed step
+open-shown m h k = go (m .part) (m .run) h (lt-ltb (m .run .lines) limit k)
+  where
+    go : (p : List ℕ) (r : Run) → (p ≡ [] → ⊥) → ltb (r .lines) limit ≡ true → shows (mid p r) (lineFeed ∷ []) ++ closes (fed (mid p r) (lineFeed ∷ [])) ≡ closes (mid p r)
+    go [] r h e = absurd (h refl)
+    go (b ∷ p) r h e = rw (e, append-nil)

@@ -1,0 +1,3 @@
+-- A script as a text, what tables prints for it, and what the calls of both programs promise.
+pub mod Shown
+pub mod Code

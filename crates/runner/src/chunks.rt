@@ -1,0 +1,132 @@
+// A script, chunk by chunk.
+use crate::part::put_part;
+use transcript::LIMIT;
+use transcript::Run;
+use transcript::begin;
+use transcript::finish;
+ghost use mathlib.Core.Path.{_≡_};
+ghost use mathlib.Core.Logic.{_⊎_};
+ghost use mathlib.Core.Bool.{Bool, true};
+ghost use mathlib.Core.List.{[], _∷_};
+ghost use Prim.Native.Nat.{_<_};
+ghost use lib.IntN.{pos};
+ghost use lib.ListN.{length, take};
+ghost use lib.Seq.{sets};
+ghost use Rattle.demands.specs.Reached.{room};
+ghost use Rattle.transcript.specs.Lines.{lineFeed};
+ghost use Rattle.transcript.specs.Replay.{limit};
+ghost use Rattle.transcript.specs.Chunks.{carrySize, fed};
+ghost use Rattle.transcript.specs.Code.{Kept, midOf};
+ghost use Rattle.runner.specs.Code.{space, printsLast};
+
+// No contract can say what is read: this count of turns bounds the loop that reads.
+const TURNS: u64 = 18446744073709551615;
+
+// What is held between two reads; open says that all that had to be written could be.
+struct Held {
+    run: Run,
+    open: bool,
+}
+
+// How a script ended: with its sums, or where no more could be read or written.
+pub(crate) enum Ending {
+    Summed,
+    Unread,
+    Unwritten,
+}
+
+// A chunk, as far as lines are read; what is put is written before more is.
+fn take_chunk(
+    tables: bool,
+    run: Run,
+    carry: &mut [u8],
+    chunk: &[u8],
+    out: &mut [u8],
+    buf: &mut [u8],
+) -> Held
+    requires { ⌜ Kept run (now carry) × (length (now out) ≡ space) × (length (now buf) ≡ room) ⌝ }
+    ensures { λ r. ⌜ Kept (r .run) (now (carry .exit)) × (r .open ≡ true → midOf (r .run) (now (carry .exit)) ≡ fed (midOf run (now (carry .entry))) (now (chunk .entry))) ⌝ }
+{
+    let mut r = run;
+    let mut i = 0;
+    while i < chunk.len() {
+        if r.lines == LIMIT {
+            return Held { run: r, open: true };
+        }
+        let t = put_part(tables, r, carry, chunk, i, out, buf);
+        let n = t.run;
+        r = n;
+        i = t.next;
+        if !io::write_all(libc::STDOUT_FILENO, &out[..t.at]) {
+            return Held {
+                run: r,
+                open: false,
+            };
+        }
+    }
+    Held { run: r, open: true }
+}
+
+// The sums, where no line is left to answer: with and without tables the same text.
+fn end(run: Run, carry: &[u8], out: &mut [u8]) -> Ending
+    requires { ⌜ Kept run (now carry) × ((run .have ≡ 0) ⊎ (run .lines ≡ limit)) × (length (now out) ≡ space) ⌝ }
+    ensures { λ _. ⌜ ((tables : Bool) → now (out .exit) ≡ sets (now (out .entry)) 0 (printsLast tables (midOf run (now (carry .entry))))) ⌝ }
+{
+    let to = finish(run, carry, out, 0);
+    if io::write_all(libc::STDOUT_FILENO, &out[..to]) {
+        return Ending::Summed;
+    }
+    Ending::Unwritten
+}
+
+// What is read, or, when the input is over, the line feed that the last line lacks.
+fn next_chunk(fd: i32, over: bool, inp: &mut [u8]) -> isize
+    requires { ⌜ 0 < length (now inp) ⌝ }
+    ensures { λ r. ⌜ (over ≡ true → (r ≡ pos 1) × (take 1 (now (inp .exit)) ≡ lineFeed ∷ [])) ⌝ }
+{
+    if over {
+        inp[0] = b'\n';
+        return 1;
+    }
+    libc::read(fd, inp)
+}
+
+// From the empty state to the sums.
+pub(crate) fn run_script(
+    tables: bool,
+    fd: i32,
+    inp: &mut [u8],
+    carry: &mut [u8],
+    out: &mut [u8],
+    buf: &mut [u8],
+) -> Ending
+    requires { ⌜ (0 < length (now inp)) × (length (now carry) ≡ carrySize) × (length (now out) ≡ space) × (length (now buf) ≡ room) ⌝ }
+{
+    let mut r = begin();
+    let mut over = false;
+    let mut turns = TURNS;
+    while turns > 0 {
+        if r.lines == LIMIT {
+            return end(r, carry, out);
+        }
+        if over && r.have == 0 {
+            return end(r, carry, out);
+        }
+        let got = next_chunk(fd, over, inp);
+        if got < 0 {
+            return Ending::Unread;
+        }
+        let k = io::count(got, inp);
+        if k == 0 {
+            over = true;
+        }
+        let t = take_chunk(tables, r, carry, &inp[..k], out, buf);
+        if !t.open {
+            return Ending::Unwritten;
+        }
+        let n = t.run;
+        r = n;
+        turns = turns - 1;
+    }
+    Ending::Unread
+}

@@ -1,0 +1,64 @@
+// A part of a chunk: as many lines as it has, or one where tables are to stand behind its answer.
+use listing::put_tables;
+use transcript::Run;
+use transcript::Turned;
+use transcript::feed;
+ghost use mathlib.Core.Path.{_≡_};
+ghost use Prim.Native.Nat.{_<_};
+ghost use lib.ListN.{length};
+ghost use Rattle.demands.specs.Reached.{room};
+ghost use Rattle.transcript.specs.Replay.{limit};
+ghost use Rattle.transcript.specs.Code.{Kept};
+ghost use Rattle.runner.specs.Code.{space, Part, Puts};
+
+// With tables: behind the line feed of the line that starts at from, or the chunk's end.
+fn part_end(tables: bool, chunk: &[u8], from: usize) -> usize
+    requires { ⌜ from < length (now chunk) ⌝ }
+    ensures { λ r. ⌜ Part tables (now (chunk .entry)) from r ⌝ }
+{
+    if !tables {
+        return chunk.len();
+    }
+    let mut i = from;
+    while i < chunk.len() {
+        if chunk[i] == b'\n' {
+            return i + 1;
+        }
+        i = i + 1;
+    }
+    i
+}
+
+// The lines that end in the part are answered, and what it has of the next one is carried. The one call of feed in a
+// program: the compiler then builds it into the loop that reads.
+pub(crate) fn put_part(
+    tables: bool,
+    run: Run,
+    carry: &mut [u8],
+    chunk: &[u8],
+    from: usize,
+    out: &mut [u8],
+    buf: &mut [u8],
+) -> Turned
+    requires { ⌜ Kept run (now carry) × (run .lines < limit) × (from < length (now chunk)) ⌝ }
+    requires { ⌜ (length (now out) ≡ space) × (length (now buf) ≡ room) ⌝ }
+    ensures { λ r. ⌜ Puts tables run (now (carry .entry)) (now (chunk .entry)) from (now (out .entry)) r (now (carry .exit)) (now (out .exit)) ⌝ }
+{
+    let lines = run.lines;
+    let end = part_end(tables, chunk, from);
+    let t = feed(run, carry, &chunk[..end], from, out, 0, buf);
+    if !tables {
+        return t;
+    }
+    let r = t.run;
+    if r.lines == lines {
+        return t;
+    }
+    let d = r.detector;
+    let to = put_tables(d, out, t.at);
+    Turned {
+        run: r,
+        next: t.next,
+        at: to,
+    }
+}

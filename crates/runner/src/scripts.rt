@@ -1,0 +1,101 @@
+// The scripts of a program: those that it is given by name, or one on standard input.
+use crate::chunks::Ending;
+use crate::chunks::run_script;
+use detector::Detector;
+use transcript::CARRY;
+ghost use mathlib.Core.Path.{_≡_};
+ghost use Prim.Native.Nat.{_<_};
+ghost use lib.ListN.{length};
+ghost use Rattle.demands.specs.Reached.{room};
+ghost use Rattle.transcript.specs.Chunks.{carrySize};
+ghost use Rattle.runner.specs.Code.{space};
+
+// Room for a line's answer and its tables, and for the sums.
+const SPACE: usize = 131072;
+
+// Zeros.
+fn out_buffer() -> [u8; SPACE]
+    ensures { λ r. ⌜ space ≡ length r ⌝ }
+{
+    [0; SPACE]
+}
+
+// Two lines on standard error: which script cannot be read and why, and what the program takes.
+fn refuse(program: &[u8], name: &[u8]) {
+    io::write_all(libc::STDERR_FILENO, program);
+    io::write_all(libc::STDERR_FILENO, b": cannot read ");
+    os::fail(name);
+    io::write_all(libc::STDERR_FILENO, program);
+    io::write_all(
+        libc::STDERR_FILENO,
+        b" takes scripts by name, or one on standard input: an event a line, tabs between its fields\n",
+    );
+}
+
+// Says what failed, and answers whether more can be written.
+fn tell(program: &[u8], name: &[u8], ending: Ending) -> bool {
+    match ending {
+        Ending::Summed => true,
+        Ending::Unread => {
+            refuse(program, name);
+            true
+        }
+        Ending::Unwritten => {
+            io::write_all(libc::STDERR_FILENO, program);
+            os::fail(b": cannot write");
+            false
+        }
+    }
+}
+
+fn run_file(
+    program: &[u8],
+    tables: bool,
+    i: usize,
+    inp: &mut [u8],
+    carry: &mut [u8],
+    out: &mut [u8],
+    buf: &mut [u8],
+) -> bool
+    requires { ⌜ (0 < length (now inp)) × (length (now carry) ≡ carrySize) × (length (now out) ≡ space) × (length (now buf) ≡ room) ⌝ }
+{
+    let mut path = io::buffer();
+    let n = os::arg(i, &mut path);
+    let fd = os::open_read(&path[..n]);
+    if fd < 0 {
+        refuse(program, &path[..n]);
+        return true;
+    }
+    let ending = run_script(tables, fd, inp, carry, out, buf);
+    let more = tell(program, &path[..n], ending);
+    libc::close(fd);
+    more
+}
+
+// Each script from the empty state.
+pub fn run_scripts(program: &[u8], tables: bool) {
+    let mut inp = io::large_buffer();
+    let mut out = out_buffer();
+    let mut carry = [0u8; CARRY];
+    let mut buf = [0u8; Detector::REPORT_BYTES];
+    let n = os::arg_count();
+    if n < 2 {
+        let ending = run_script(
+            tables,
+            libc::STDIN_FILENO,
+            &mut inp,
+            &mut carry,
+            &mut out,
+            &mut buf,
+        );
+        tell(program, b"standard input", ending);
+        return;
+    }
+    let mut i: usize = 1;
+    while i < n {
+        if !run_file(program, tables, i, &mut inp, &mut carry, &mut out, &mut buf) {
+            return;
+        }
+        i = i + 1;
+    }
+}
