@@ -6,9 +6,11 @@ use native.Mathlib.Omega.{arith}
 use lib.ListN.{length, drop, getD, length-append}
 use lib.Seq.{getD-drop}
 use Rattle.answers.specs.Text.{text, decimal, withTab, tabbed, Room}
-use Rattle.waits.specs.Report.{entryBytes}
-use Rattle.answers.specs.Reports.{Entry, entryIn, entriesIn, reportIn, reportSize, reportsIn, reportsSize}
-use Rattle.answers.specs.Answers.{number, reports, replyText, itemText, itemsText, cycleText, cyclesText, answerText, endText, itemRoom, answerRoom, endRoom}
+use Rattle.waits.specs.Report.{Entry, entryBytes}
+use Rattle.detector.specs.Refusals.{reportRoom}
+use Rattle.detector.specs.State.{reportsOf}
+use Rattle.answers.specs.Reports.{entryIn, entriesIn, reportIn, reportSize, reportsIn, reportsSize}
+use Rattle.answers.specs.Answers.{number, replyText, itemText, itemsText, cycleText, cyclesText, answerText, endText, itemRoom, answerRoom, endRoom}
 use Rattle.answers.proofs.Digits.{decimal-short}
 use Rattle.answers.proofs.Items.{reply-parts, end-parts, cycle-parts, item-parts, report-at}
 use Rattle.detector.specs.declared.reply.Reply.{Reply}
@@ -65,12 +67,12 @@ cycles-bound (suc r) b h =
     let q : length (cyclesText (reportsIn r (drop (reportSize b) b))) ≤ 4 * reportsSize r (drop (reportSize b) b) + 2 * r = cycles-bound r (drop (reportSize b) b) (bytes-drop b (reportSize b) h) in
     omega (arith, cycle-length (reportIn b), items-bound (getD b 0 0) (drop 1 b) (bytes-drop b 1 h), length-append (cycleText (reportIn b)) (cyclesText (reportsIn r (drop (reportSize b) b))))
 
--- 32 reports in 2,080 bytes: the longest answer to one line
-pub answer-bound : (n : ℕ) (r : Reply) (b : List ℕ) → n < 2 ^ 64 → number r < 2 ^ 64 → Bytes b → reports r ≤ 32 → reportsSize (reports r) b ≤ 2080 → length (answerText n r b) ≤ answerRoom
+-- 32 reports in all the room that there is for them: the longest answer to one line
+pub answer-bound : (n : ℕ) (r : Reply) (b : List ℕ) → n < 2 ^ 64 → number r < 2 ^ 64 → Bytes b → reportsOf r ≤ 32 → reportsSize (reportsOf r) b ≤ reportRoom → length (answerText n r b) ≤ answerRoom
 unfolding answerText
-answer-bound n r b h g k s t = omega (arith, reply-bound n r h g, cycles-bound (reports r) b k, length-append (replyText n r) (cyclesText (reportsIn (reports r) b)))
+answer-bound n r b h g k s t = omega (arith, reply-bound n r h g, cycles-bound (reportsOf r) b k, length-append (replyText n r) (cyclesText (reportsIn (reportsOf r) b)))
 
-pub answer-room : (d : List ℕ) (at n : ℕ) (r : Reply) (b : List ℕ) → n < 2 ^ 64 → number r < 2 ^ 64 → Bytes b → reports r ≤ 32 → reportsSize (reports r) b ≤ 2080 → at + answerRoom ≤ length d → Room d at (answerText n r b)
+pub answer-room : (d : List ℕ) (at n : ℕ) (r : Reply) (b : List ℕ) → n < 2 ^ 64 → number r < 2 ^ 64 → Bytes b → reportsOf r ≤ 32 → reportsSize (reportsOf r) b ≤ reportRoom → at + answerRoom ≤ length d → Room d at (answerText n r b)
 answer-room d at n r b h g k s t w = record { fits = omega (arith, answer-bound n r b h g k s t) }
 
 pub end-room : (d : List ℕ) (at n e s : ℕ) → n < 2 ^ 64 → e < 2 ^ 64 → s < 2 ^ 64 → at + endRoom ≤ length d → Room d at (endText n e s)

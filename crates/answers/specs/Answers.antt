@@ -4,11 +4,13 @@ use Prim.Native.Nat.{ℕ, _+_, _*_, _≤_}
 use mathlib.Core.List.{List, [], _∷_, _++_, map}
 use lib.ListN.{length}
 use Rattle.answers.specs.Text.{text, decimal, tabbed, line}
-use Rattle.answers.specs.Reports.{Entry, reportsIn, reportsSize}
+use Rattle.answers.specs.Reports.{reportsIn, reportsSize}
+use Rattle.waits.specs.Report.{Entry}
+use Rattle.detector.specs.State.{reportsOf}
 use Rattle.detector.specs.declared.reply.Reply.{Reply}
 use Rattle.detector.specs.declared.reply.Reply.the-variants.{Reports, Refused}
 
--- a reply by document 01: its word, its number, and how many reports stand in the buffer
+-- a reply by document 01: its word and its number
 abbrev pub verdict : Reply → List ℕ
 verdict (Reports n) = text "ok"
 verdict (Refused k) = text "no"
@@ -16,10 +18,6 @@ verdict (Refused k) = text "no"
 abbrev pub number : Reply → ℕ
 number (Reports n) = n
 number (Refused k) = k
-
-abbrev pub reports : Reply → ℕ
-reports (Reports n) = n
-reports (Refused k) = 0
 
 unfoldable pub replyText : ℕ → Reply → List ℕ
 replyText n r = line (decimal n ∷ verdict r ∷ decimal (number r) ∷ [])
@@ -41,7 +39,7 @@ cyclesText (es ∷ rs) = cycleText es ++ cyclesText rs
 
 -- what is printed for the line of number n, with the reports in the buffer b
 unfoldable pub answerText : ℕ → Reply → List ℕ → List ℕ
-answerText n r b = replyText n r ++ cyclesText (reportsIn (reports r) b)
+answerText n r b = replyText n r ++ cyclesText (reportsIn (reportsOf r) b)
 
 unfoldable pub endText : ℕ → ℕ → ℕ → List ℕ
 endText lines edges stuck = line (text "end" ∷ decimal lines ∷ decimal edges ∷ decimal stuck ∷ [])

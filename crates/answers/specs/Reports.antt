@@ -2,16 +2,7 @@
 use Prim.Native.Nat.{ℕ, zero, suc, _+_, _*_}
 use mathlib.Core.List.{List, [], _∷_, _++_}
 use lib.ListN.{length, drop, getD}
-use Rattle.waits.specs.Report.{entryBytes}
-
--- a thread of a cycle, and the lock that it awaits
-pub record Entry : Type 0 where
-  pub thread : ℕ
-  pub lock : ℕ
-
--- the bytes of an entry, as many as `waits` says
-abbrev pub entryText : Entry → List ℕ
-entryText e = e .thread ∷ e .lock ∷ []
+use Rattle.waits.specs.Report.{Entry, entryBytes, cycleBytes}
 
 -- the entry that b starts with
 abbrev pub entryIn : List ℕ → Entry
@@ -38,11 +29,7 @@ unfoldable pub reportsSize : ℕ → List ℕ → ℕ
 reportsSize zero b = 0
 reportsSize (suc r) b = reportSize b + reportsSize r (drop (reportSize b) b)
 
--- the other way: the bytes of a report, and of reports
-unfoldable pub entriesBytes : List Entry → List ℕ
-entriesBytes [] = []
-entriesBytes (e ∷ es) = entryText e ++ entriesBytes es
-
+-- the other way: the bytes of reports
 unfoldable pub reportsBytes : List (List Entry) → List ℕ
 reportsBytes [] = []
-reportsBytes (es ∷ rs) = (length es ∷ entriesBytes es) ++ reportsBytes rs
+reportsBytes (es ∷ rs) = cycleBytes es ++ reportsBytes rs

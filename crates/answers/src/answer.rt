@@ -7,7 +7,8 @@ use crate::put::put_byte;
 use crate::put::put_bytes;
 use detector::Reply;
 ghost use Rattle.answers.specs.Text.{Room, Put};
-ghost use Rattle.answers.specs.Answers.{reports, replyText, answerText, endText, Held};
+ghost use Rattle.detector.specs.State.{reportsOf};
+ghost use Rattle.answers.specs.Answers.{replyText, answerText, endText, Held};
 
 // Room for the longest answer to one line (32 full reports), and for the last line.
 pub const ANSWER_ROOM: usize = 8429;
@@ -36,7 +37,7 @@ fn put_reply(out: &mut [u8], at: usize, line: usize, reply: Reply) -> usize
 
 // The answer to the line, and a line for each report that stands in the report buffer.
 pub fn put_answer(out: &mut [u8], at: usize, line: usize, reply: Reply, buf: &[u8]) -> usize
-    requires { ⌜ Held (reports reply) (now buf) ⌝ }
+    requires { ⌜ Held (reportsOf reply) (now buf) ⌝ }
     requires { ⌜ Room (now out) at (answerText line reply (now buf)) ⌝ }
     ensures { λ r. ⌜ Put (now (out .entry)) at (answerText line reply (now (buf .entry))) (now (out .exit)) r ⌝ }
 {

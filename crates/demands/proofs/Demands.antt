@@ -13,23 +13,23 @@ use Rattle.waits.specs.declared.outcome.Outcome.{Outcome}
 use Rattle.waits.proofs.Telling.{laid-none}
 use Rattle.detector.specs.Tables.{Tables, Answer, empty}
 use Rattle.detector.specs.Refusals.{refusal}
-use Rattle.detector.specs.State.{pairsOf, tables, Valid, refusalOf, refusedBy, reportsIn, Steps}
+use Rattle.detector.specs.State.{pairsOf, tables, Valid, refusalOf, refusedBy, reportsOf, Steps}
 use Rattle.detector.specs.declared.event.Event.{Event}
 use Rattle.detector.specs.declared.event.Event.the-variants.{MutexAttempt, RwWriteAttempt, RwReadAttempt}
 use Rattle.detector.specs.declared.state.Detector.{Detector}
 use Rattle.detector.specs.declared.reply.Answered.{Answered}
 use Rattle.detector.specs.declared.reply.Reply.{Reply}
 use Rattle.detector.specs.declared.reply.Reply.the-variants.{Refused}
-use Rattle.demands.specs.Reached.{answer, room, after, Reached}
-use Rattle.demands.specs.Feeds.{Call, Back, Feeds, none, next, Starts}
+use Rattle.demands.specs.Reached.{answer, replied, room, reach, Reached}
+use Rattle.demands.specs.Driven.{Call, Back, Driven, none, next, Starts}
 use Rattle.demands.specs.Typed.{Typed}
 use Rattle.demands.specs.Demand1.{AllAnswered, AllAnsweredFromNew, EachAnswered, RefusedByNumber}
-use Rattle.demands.specs.Demand2.{replied, onward, backs, ends, NoTwo, FedAsRuled, Coincide, StepsCoincide}
+use Rattle.demands.specs.Demand2.{onward, backs, reachBy, NoTwo, FedAsRuled, Coincide, StepsCoincide}
 use Rattle.demands.specs.Demand3.{ReportsTrue, Converse, MutexConverse, RwConverse, Attempted, Called, CalledHalf}
 use Rattle.demands.proofs.Events.{accepted-full, served, unserved}
 use Rattle.demands.proofs.Invariants.{first-half}
 use Rattle.demands.proofs.Exact.{second-half}
-use Rattle.demands.proofs.Entry.{entry, starts-typed, served-held}
+use Rattle.demands.proofs.StepAnswered.{step-answered, starts-typed, served-held}
 use Rattle.detector.proofs.Validity.{valid-tested}
 use Rattle.detector.proofs.Numbers.{refusal-known}
 use Rattle.detector.proofs.SameState.{same-state}
@@ -39,7 +39,7 @@ use Rattle.detector.proofs.SameState.{same-state}
 pub all-answered : AllAnswered
 all-answered d h [] = ([], d, none, h)
 all-answered d h (k ∷ ks) =
-    let s = entry d k h in
+    let s = step-answered d k h in
     let f = all-answered (s .0 .detector) (s .3) ks in
     (record { reply = s .0 .reply; buffer = s .1 } ∷ f .0, f .1, next (s .2) (f .2), f .3)
 
@@ -49,7 +49,7 @@ all-answered-from-new d s ks = let f = all-answered d (starts-typed d s) ks in (
 pub each-answered : EachAnswered
 each-answered d e ks bs f = go f
   where
-    go : {d : Detector} {ks : List Call} {bs : List Back} {e : Detector} → Feeds d ks bs e → length bs ≡ length ks
+    go : {d : Detector} {ks : List Call} {bs : List Back} {e : Detector} → Driven d ks bs e → length bs ≡ length ks
     go none = refl
     go (next s f) = ap suc (go f)
 
@@ -65,10 +65,10 @@ refused-by-number d ev r b e s = record { number = number (refusalOf d (length b
 
 -- ---- the rules' run
 
-after-snoc : (es : List Event) (e : Event) (x : Tables) → after x (es ++ (e ∷ [])) ≡ answer (after x es) room e .tables
-unfolding after
-after-snoc [] e x = refl
-after-snoc (f ∷ es) e x = after-snoc es e (answer x room f .tables)
+reach-snoc : (es : List Event) (e : Event) (x : Tables) → reach x (es ++ (e ∷ [])) ≡ answer (reach x es) room e .tables
+unfolding reach
+reach-snoc [] e x = refl
+reach-snoc (f ∷ es) e x = reach-snoc es e (answer x room f .tables)
 
 -- one event more, with any buffer
 pub reached-next : (x : Tables) (n : ℕ) (e : Event) → Reached x → Reached (answer x n e .tables)
@@ -78,15 +78,15 @@ reached-next x n e r = go (ℕ-discrete (refusal x n e) 0)
     go (yes h) =
         record {
           events = r .events ++ (e ∷ []);
-          ends = after-snoc (r .events) e empty ∙ ap (λ (y : Tables). answer y room e .tables) (r .ends)
+          reaches = reach-snoc (r .events) e empty ∙ ap (λ (y : Tables). answer y room e .tables) (r .reaches)
               ∙ ap (λ (a : Answer). a .tables) (served x room e (accepted-full x n e h) ∙ sym (served x n e h));
         }
-    go (no h) = record { events = r .events; ends = r .ends ∙ ap (λ (a : Answer). a .tables) (sym (unserved x n e h)) }
+    go (no h) = record { events = r .events; reaches = r .reaches ∙ ap (λ (a : Answer). a .tables) (sym (unserved x n e h)) }
 
-reached-ends : (ks : List Call) (x : Tables) → Reached x → Reached (ends x ks)
-unfolding ends
-reached-ends [] x r = r
-reached-ends (k ∷ ks) x r = reached-ends ks (onward x k) (reached-next x (length (k .lent)) (k .event) r)
+reached-by : (ks : List Call) (x : Tables) → Reached x → Reached (reachBy x ks)
+unfolding reachBy
+reached-by [] x r = r
+reached-by (k ∷ ks) x r = reached-by ks (onward x k) (reached-next x (length (k .lent)) (k .event) r)
 
 -- ---- no rule gives number 2
 
@@ -117,10 +117,10 @@ record Follows (d : Detector) (ev : Event) (r : Answered) (b e : List ℕ) : Typ
 same-back : {p q : Reply} {b c : List ℕ} → p ≡ q → b ≡ c → _≡_ {A = Back} (record { reply = p; buffer = b }) (record { reply = q; buffer = c })
 same-back p q = λ i. record { reply = p i; buffer = q i }
 
-counted : (x : Tables) (n : ℕ) (e : Event) → reportsIn (replied x n e) ≡ length (answer x n e .reports)
+counted : (x : Tables) (n : ℕ) (e : Event) → reportsOf (replied x n e) ≡ length (answer x n e .reports)
 counted x n e = go (ℕ-discrete (refusal x n e) 0)
   where
-    go : Dec (refusal x n e ≡ 0) → reportsIn (replied x n e) ≡ length (answer x n e .reports)
+    go : Dec (refusal x n e ≡ 0) → reportsOf (replied x n e) ≡ length (answer x n e .reports)
     go (yes h) = rw h
     go (no h) = rw (ne-eqb (refusal x n e) 0 h, unserved x n e h)
 
@@ -152,30 +152,30 @@ follows d ev r b e v s = go (ℕ-discrete (refusal (tables d) (length b) ev) 0)
 -- any calls from a valid state
 record Ran (x : Tables) (ks : List Call) (bs : List Back) (e : Detector) : Type 0 where
   answers : bs ≡ backs x ks
-  after : tables e ≡ ends x ks
+  after : tables e ≡ reachBy x ks
   valid : Valid e
 
-ran : {d : Detector} {ks : List Call} {bs : List Back} {e : Detector} → Feeds d ks bs e → Valid d → Ran (tables d) ks bs e
-unfolding backs ends
+ran : {d : Detector} {ks : List Call} {bs : List Back} {e : Detector} → Driven d ks bs e → Valid d → Ran (tables d) ks bs e
+unfolding backs reachBy
 ran none v = record { answers = refl; after = refl; valid = v }
 ran (next {d = d} {k = k} {r = r} {b = b} {ks = ks} {bs = bs} s f) v =
     let q = follows d (k .event) r (k .lent) b v s in
     let n = ran f (q .valid) in
     record {
       answers = ap₂ (λ (p : Back) (l : List Back). p ∷ l) (same-back (q .reply) (q .bytes)) (n .answers ∙ ap (λ (y : Tables). backs y ks) (q .after));
-      after = n .after ∙ ap (λ (y : Tables). ends y ks) (q .after);
+      after = n .after ∙ ap (λ (y : Tables). reachBy y ks) (q .after);
       valid = n .valid;
     }
 
 pub as-ruled : FedAsRuled
-unfolding after
+unfolding reach
 as-ruled d e ks bs s f =
     let n = subst (λ (x : Tables). Ran x ks bs e) (s .blank) (ran f (s .valid)) in
     record {
       answers = n .answers;
-      tables = n .after;
+      state = n .after;
       valid = n .valid;
-      reached = reached-ends ks empty (record { events = []; ends = refl });
+      reached = reached-by ks empty (record { events = []; reaches = refl });
       noTwo = subst NoTwo (sym (n .answers)) (no-two ks empty);
     }
 
@@ -183,7 +183,7 @@ pub coincide : Coincide
 coincide d e d′ e′ ks bs bs′ s f s′ f′ =
     let n = as-ruled d e ks bs s f in
     let m = as-ruled d′ e′ ks bs′ s′ f′ in
-    (n .answers ∙ sym (m .answers), n .tables ∙ sym (m .tables))
+    (n .answers ∙ sym (m .answers), n .state ∙ sym (m .state))
 
 -- as many queues come out of a step as the types hold
 queues-out : (d : Detector) (ev : Event) (r : Answered) (b e : List ℕ) → Typed d → Steps d ev r b e → refusalOf d (length b) ev ≡ 0 → length (r .detector .rest .«cv_waiters») ≡ 16
@@ -209,24 +209,24 @@ steps-coincide d ev r q b e f h s t = go (refusalOf d (length b) ev) refl
         (x .0 ∙ sym (y .0), x .1 ∙ sym (y .1))
 
 -- the state that is fed so is a reached one
-fed-reached : (d₀ d : Detector) (ks : List Call) (bs : List Back) → Starts d₀ → Feeds d₀ ks bs d → Reached (tables d)
-fed-reached d₀ d ks bs s f = let n = as-ruled d₀ d ks bs s f in subst Reached (sym (n .tables)) (n .reached)
+fed-reached : (d₀ d : Detector) (ks : List Call) (bs : List Back) → Starts d₀ → Driven d₀ ks bs d → Reached (tables d)
+fed-reached d₀ d ks bs s f = let n = as-ruled d₀ d ks bs s f in subst Reached (sym (n .state)) (n .reached)
 
 pub reports-true : ReportsTrue
 reports-true d₀ d ks bs s f ev r b e t =
     let q = follows d ev r b e (as-ruled d₀ d ks bs s f .valid) t in
     record {
       reports = answer (tables d) (length b) ev .reports;
-      count = ap reportsIn (q .reply) ∙ counted (tables d) (length b) ev;
+      count = ap reportsOf (q .reply) ∙ counted (tables d) (length b) ev;
       bytes = q .bytes;
-      true = rw (q .after) (first-half (tables d) (length b) ev (fed-reached d₀ d ks bs s f));
+      each = rw (q .after) (first-half (tables d) (length b) ev (fed-reached d₀ d ks bs s f));
     }
 
 carried : (C : Converse) (event : ℕ → ℕ → Outcome → Event) → Attempted C event → Called C event
 carried C event half d₀ d ks bs s f x t l o r b e k z =
     let q = follows d (event t l o) r b e (as-ruled d₀ d ks bs s f .valid) k in
     let n = half (tables d) (length b) t l o (fed-reached d₀ d ks bs s f) x (sym (refused-replied (tables d) (length b) (event t l o)) ∙ sym (ap refusedBy (q .reply)) ∙ z) in
-    subst₂ (C (tables d) t l o) (sym (ap reportsIn (q .reply) ∙ counted (tables d) (length b) (event t l o))) (sym (q .after)) n
+    subst₂ (C (tables d) t l o) (sym (ap reportsOf (q .reply) ∙ counted (tables d) (length b) (event t l o))) (sym (q .after)) n
 
 pub converse : CalledHalf
 converse =

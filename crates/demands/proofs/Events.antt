@@ -9,7 +9,7 @@ use lib.Dec.{eqb, ltb, lit≤}
 use lib.ListN.{length, length-append, take}
 use borrow.Author.Tests.{eqb-true, ne-eqb}
 use Rattle.waits.specs.Tables.{ownerOf}
-use Rattle.waits.specs.Report.{Report, Said, quiet, bytesOf}
+use Rattle.waits.specs.Report.{Report, Said, quiet, bytesOf, reportBytes}
 use Rattle.waits.specs.Attempt.{block, blockMutex, readOn, writeOn, free, blockWrite}
 use Rattle.waits.specs.declared.tables.Waits.{Waits}
 use Rattle.waits.specs.declared.outcome.Outcome.the-variants.{Took, Blocked, Hinted}
@@ -29,7 +29,7 @@ use Rattle.demands.specs.Invariants.{Fine, Seated, Kept, most}
 use Rattle.demands.specs.Demand3.{Passed, TrueReport, Each}
 use Rattle.demands.proofs.Keeping.{acquired-keeps, written-keeps}
 use Rattle.demands.proofs.Fine.{fine-own, fine-write, fine-rules}
-use Rattle.demands.proofs.Reports.{each-map, each-append, bytes-spelled, Made, Fair, fair-quiet, fair-settle, fair-block, fair-mutex}
+use Rattle.demands.proofs.Reports.{each-map, each-append, Made, Fair, fair-quiet, fair-settle, fair-block, fair-mutex}
 
 -- ---- an accepted event is accepted with room for all reports as well
 
@@ -44,24 +44,24 @@ accepted-full x room e h =
 
 -- a report of event e, with tables x before it and y after it
 pub record Heard (x : Tables) (e : Event) (y : Tables) (r : Report) : Type 0 where
-  pub true : TrueReport x e y r
-  pub long : length (bytesOf r) ≤ 65
+  pub report : TrueReport x e y r
+  pub long : length (bytesOf r) ≤ reportBytes
 
 heard : (x : Tables) (e : Event) (y : Tables) {w : Waits} {r : Report} → Passed x e y (r .state) → Made (y .«rwlock_readers») w r → Heard x e y r
-heard x e y {r = r} p m = record { true = record { cycle = m .cycle; passed = p; bytes = bytes-spelled r }; long = m .long }
+heard x e y p m = record { report = record { cycle = m .cycle; passed = p }; long = m .long }
 
 pub record Answers (x : Tables) (e : Event) (a : Answer) : Type 0 where
   pub few : length (a .reports) ≤ most e
-  pub true : Each (Heard x e (a .tables)) (a .reports)
+  pub each : Each (Heard x e (a .tables)) (a .reports)
 
 answers-silent : (x : Tables) (e : Event) (y : Tables) → Answers x e (silent y)
-answers-silent x e y = record { few = omega arith; true = tt }
+answers-silent x e y = record { few = omega arith; each = tt }
 
 -- one judgement, which is the last thing that the event does
 answers-one : (x : Tables) (e : Event) (y : Tables) (rs : List Report) → 1 ≤ most e → Fair (y .«rwlock_readers») (record { waits = y .waits; reports = rs })
     → Answers x e (record { tables = y; reports = rs })
 answers-one x e y rs n f =
-    record { few = omega (arith, f .few); true = each-map (Made (y .«rwlock_readers») (y .waits)) (Heard x e y) (λ r m. heard x e y (inl (m .here)) m) rs (f .true) }
+    record { few = omega (arith, f .few); each = each-map (Made (y .«rwlock_readers») (y .waits)) (Heard x e y) (λ r m. heard x e y (inl (m .here)) m) rs (f .each) }
 
 answers-said : (x : Tables) (e : Event) (a : Said) → 1 ≤ most e → Fair (x .«rwlock_readers») a → Answers x e (said x a)
 answers-said x e a n f = answers-one x e (withWaits x (a .waits)) (a .reports) n f
@@ -108,28 +108,28 @@ fair-attempted c w p h i f = go (ltb (ownerOf w (p .lock)) 32)
 record Walked (P : Report → Type 0) (n : ℕ) (s : Woken) : Type 0 where
   fine : Fine (s .waits)
   count : length (s .reports) ≤ n
-  true : Each P (s .reports)
+  each : Each P (s .reports)
 
 walked : (c : List ℕ) (P : Report → Type 0) (q : List Pair) (s : Woken) (n : ℕ) → Seated q → Walked P n s
     → ((m : ℕ) (r : Report) → Made c (foldl (wake c) s (take m q) .waits) r → P r) → Walked P (n + length q) (foldl (wake c) s q)
 unfolding wake
-walked c P [] s n k v h = record { fine = v .fine; count = omega (arith, v .count); true = v .true }
+walked c P [] s n k v h = record { fine = v .fine; count = omega (arith, v .count); each = v .each }
 walked c P (p ∷ q) s n k v h =
     let a = fair-attempted c (s .waits) p (k .0) (k .1) (v .fine) in
     let r = walked c P q (wake c s p) (suc n) (k .2) (record {
       fine = a .fine;
       count = omega (arith, length-append (s .reports) (attempted c (s .waits) p .reports), a .few, v .count);
-      true = each-append P (s .reports) _ (v .true) (each-map (Made c (attempted c (s .waits) p .waits)) P (h 1) (attempted c (s .waits) p .reports) (a .true));
+      each = each-append P (s .reports) _ (v .each) (each-map (Made c (attempted c (s .waits) p .waits)) P (h 1) (attempted c (s .waits) p .reports) (a .each));
     }) (λ m. h (suc m)) in
-    record { fine = r .fine; count = omega (arith, r .count); true = r .true }
+    record { fine = r .fine; count = omega (arith, r .count); each = r .each }
 
 answers-all : (x : Tables) (c : ℕ) → Kept x → Answers x (CondvarNotifyAll c) (notifyAll x c)
 unfolding notifyAll wakeAll
 answers-all x c k =
     let r = walked (x .«rwlock_readers») (Heard x (CondvarNotifyAll c) (notifyAll x c .tables)) (queueOf x c) (record { waits = x .waits; woken = x .«cv_woken»; reports = [] }) 0 (k .seated c)
-    (record { fine = k .waits; count = omega arith; true = tt })
+    (record { fine = k .waits; count = omega arith; each = tt })
     (λ m r d. heard x (CondvarNotifyAll c) (notifyAll x c .tables) (inr (c, m, refl, d .here)) d) in
-    record { few = omega (arith, r .count, k .queues c); true = r .true }
+    record { few = omega (arith, r .count, k .queues c); each = r .each }
 
 answers-first : (x : Tables) (c : ℕ) → Kept x → Answers x (CondvarNotifyOne c) (notifyOne x c)
 unfolding notifyOne wakeAll wake

@@ -5,13 +5,13 @@ use Prim.Native.Nat.{ℕ, zero, suc, _*_, _≤_}
 use native.Mathlib.Omega.{arith}
 use lib.Dec.{lit<, lit≤}
 use lib.ListN.{getD, length, length-append, replicate}
-use Rattle.waits.specs.Report.{Report, bytesOf, written}
+use Rattle.waits.specs.Report.{Report, bytesOf, reportBytes, written}
 use Rattle.detector.specs.Tables.{Tables, empty, noWait, blankWait}
 use Rattle.detector.specs.State.{Waiting}
 use Rattle.detector.specs.declared.event.Event.{Event}
 use Rattle.detector.specs.declared.event.Event.the-variants.{MutexAttempt, MutexAcquired, MutexReleased, MutexExit, RwReadAttempt, RwReadAcquired, RwReadTry, RwReadReleased, RwWriteAttempt, RwWriteAcquired, RwWriteReleased, RwExit, CondvarSpawn, CondvarExit, CondvarWaitBegin, CondvarNotifyOne, CondvarNotifyAll, CondvarWaitEnd}
 use Rattle.detector.specs.declared.state.Pair.{Pair}
-use Rattle.demands.specs.Reached.{answer, room, after}
+use Rattle.demands.specs.Reached.{answer, room, reach}
 use Rattle.demands.specs.Invariants.{Kept, most, ReachedKept, ReachedFew, ReachedRoom}
 use Rattle.demands.specs.Demand3.{Each, TrueReport, FirstHalf}
 use Rattle.demands.proofs.Keeping.{answer-keeps}
@@ -42,20 +42,20 @@ kept-empty =
     sleep (suc n) zero = record { condvar = lit≤ tt; lock = lit< tt; absent = λ e. refl }
     sleep (suc n) (suc t) = sleep n t
 
-kept-after : (es : List Event) (x : Tables) → Kept x → Kept (after x es)
-unfolding after
-kept-after [] x k = k
-kept-after (e ∷ es) x k = kept-after es (answer x room e .tables) (answer-keeps fine-rules x k room e)
+kept-reach : (es : List Event) (x : Tables) → Kept x → Kept (reach x es)
+unfolding reach
+kept-reach [] x k = k
+kept-reach (e ∷ es) x k = kept-reach es (answer x room e .tables) (answer-keeps fine-rules x k room e)
 
 pub reached-kept : ReachedKept
-reached-kept x r = subst Kept (r .ends) (kept-after (r .events) empty kept-empty)
+reached-kept x r = subst Kept (r .reaches) (kept-reach (r .events) empty kept-empty)
 
 pub reached-few : ReachedFew
 reached-few x room e r = answers-answer x room e (reached-kept x r) .few
 
 -- ---- bytes
 
-written-length : (P : Report → Type 0) → ((r : Report) → P r → length (bytesOf r) ≤ 65) → (rs : List Report) → Each P rs → length (written rs) ≤ 65 * length rs
+written-length : (P : Report → Type 0) → ((r : Report) → P r → length (bytesOf r) ≤ reportBytes) → (rs : List Report) → Each P rs → length (written rs) ≤ reportBytes * length rs
 unfolding written
 written-length P h [] k = lit≤ tt
 written-length P h (r ∷ rs) k = omega (arith, length-append (bytesOf r) (written rs), h r (k .0), written-length P h rs (k .1))
@@ -83,8 +83,8 @@ most-32 (CondvarWaitEnd t c l) = lit≤ tt
 pub reached-room : ReachedRoom
 reached-room x room e r =
     let a = answers-answer x room e (reached-kept x r) in
-    omega (arith, a .few, most-32 e, written-length (Heard x e (answer x room e .tables)) (λ r h. h .long) (answer x room e .reports) (a .true))
+    omega (arith, a .few, most-32 e, written-length (Heard x e (answer x room e .tables)) (λ r h. h .long) (answer x room e .reports) (a .each))
 
 pub first-half : FirstHalf
 first-half x room e r =
-    each-map (Heard x e (answer x room e .tables)) (TrueReport x e (answer x room e .tables)) (λ r h. h .true) (answer x room e .reports) (answers-answer x room e (reached-kept x r) .true)
+    each-map (Heard x e (answer x room e .tables)) (TrueReport x e (answer x room e .tables)) (λ r h. h .report) (answer x room e .reports) (answers-answer x room e (reached-kept x r) .each)

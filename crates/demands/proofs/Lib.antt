@@ -11,8 +11,8 @@ pub mod Events
 pub mod Invariants
 -- demand 3: second-half
 pub mod Exact
--- demand 1: entry
-pub mod Entry
+-- demand 1: step-answered
+pub mod StepAnswered
 -- demand 1: all-answered, all-answered-from-new, each-answered, refused-by-number; demand 2: as-ruled, coincide, steps-coincide; demand 3:
 -- reports-true, converse
 pub mod Demands

@@ -3,17 +3,18 @@ use mathlib.Core.Path.{_≡_, refl, sym, ap}
 use mathlib.Core.List.{List, [], _∷_, _++_, map}
 use mathlib.Core.Bool.{Bool, true, false, cond, false≢true}
 use mathlib.Core.Option.{Option, none, some}
-use Prim.Native.Nat.{ℕ, suc, _<_, _≤_}
+use Prim.Native.Nat.{ℕ, _<_, _≤_}
 use native.Mathlib.Omega.{arith}
 use lib.ListN.{length}
 use Rattle.sets.specs.Lists.{In, Distinct}
 use Rattle.sets.proofs.Lists.{among-in}
+use Rattle.graph.specs.Ways.{Round, Ring}
 use Rattle.graph.proofs.Fits.{Fits}
 use Rattle.waits.specs.Tables.{intentOf, lockOf}
 use Rattle.waits.specs.Owners.{blocking, waitsFor}
 use Rattle.waits.specs.Waiting.{Step, register, refresh, refreshLocks}
 use Rattle.waits.specs.Filter.{passes}
-use Rattle.waits.specs.Report.{Report, Said, entries, bytesOf, quiet, saying}
+use Rattle.waits.specs.Report.{Report, Entry, entryOf, entriesOf, Said, bytesOf, reportBytes, quiet, saying}
 use Rattle.waits.specs.Validate.{around, valid, awaitedLocks, checked, validate}
 use Rattle.waits.specs.Attempt.{judgedOf, judged, sievedOf, sieved, settle, block, blockMutex, mutexOn}
 use Rattle.waits.specs.declared.tables.Waits.{Waits}
@@ -23,9 +24,8 @@ use Rattle.waits.specs.declared.intent.Awaits.the-variants.{Nothing, For}
 use Rattle.waits.proofs.Laws.{fits-register, fits-refresh, fits-locks}
 use Rattle.waits.proofs.Telling.{length-bytes}
 use Rattle.detector.proofs.Validity.{both}
-use Rattle.demands.specs.Sessions.{printed}
 use Rattle.demands.specs.Invariants.{Fine}
-use Rattle.demands.specs.Demand3.{Blocks, Around, Closed, TrueCycle, flat, spelled, Each}
+use Rattle.demands.specs.Demand3.{Blocks, TrueCycle, Each}
 use Rattle.demands.proofs.Fine.{Neat, Stepped, stepped-register, stepped-refresh, stepped-locks}
 
 -- ---- lists of reports
@@ -40,72 +40,57 @@ each-append P (r ∷ a) b h k = (h .0, each-append P a b (h .1) k)
 
 -- ---- what passes the validation is a true cycle
 
--- the thread, and the lock beside its name
-abbrev seat : Waits → ℕ → ℕ × ℕ
-seat w t = (t, lockOf (intentOf w t))
-
-pub waits-blocks : (c : List ℕ) (w : Waits) (a b : ℕ) → waitsFor c w a b ≡ true → Blocks c w (seat w a) b
+pub waits-blocks : (c : List ℕ) (w : Waits) (a b : ℕ) → waitsFor c w a b ≡ true → Blocks c w (entryOf w a) b
 unfolding waitsFor
 waits-blocks c w a b e = go (intentOf w a) refl (among-in b _ e)
   where
-    go : (i : Awaits) → intentOf w a ≡ i → In b (blocking c w i) → Blocks c w (seat w a) b
+    go : (i : Awaits) → intentOf w a ≡ i → In b (blocking c w i) → Blocks c w (entryOf w a) b
     go Nothing q m = absurd m
     go (For i) q m = record { intent = i; awaits = q; beside = sym (ap lockOf q); owns = m }
 
-around-true : (c : List ℕ) (w : Waits) (f a : ℕ) (r : List ℕ) → around c w f a r ≡ true → Around c w f (seat w a) (map (seat w) r)
+-- an entry waits for the thread of the next
+abbrev Next : List ℕ → Waits → Entry → Entry → Type 0
+Next c w p q = Blocks c w p (q .thread)
+
+around-true : (c : List ℕ) (w : Waits) (f a : ℕ) (r : List ℕ) → around c w f a r ≡ true → Round (Next c w) (entryOf w f) (entryOf w a) (map (entryOf w) r)
 unfolding around
 around-true c w f a [] e = waits-blocks c w a f e
 around-true c w f a (b ∷ r) e = let h = both (waitsFor c w a b) (around c w f b r) e in (waits-blocks c w a b (h .0), around-true c w f b r (h .1))
 
-valid-closed : (c : List ℕ) (w : Waits) (p : List ℕ) → valid c w p ≡ true → Closed c w (map (seat w) p)
+valid-closed : (c : List ℕ) (w : Waits) (p : List ℕ) → valid c w p ≡ true → Ring (Next c w) (map (entryOf w) p)
 unfolding valid
 valid-closed c w [] e = false≢true e
 valid-closed c w (a ∷ r) e = around-true c w a a r e
 
-threads-of : (w : Waits) (p : List ℕ) → map (λ (q : ℕ × ℕ). q .0) (map (seat w) p) ≡ p
+threads-of : (w : Waits) (p : List ℕ) → map (λ (q : Entry). q .thread) (map (entryOf w) p) ≡ p
 threads-of w [] = refl
 threads-of w (t ∷ p) = ap (λ (l : List ℕ). t ∷ l) (threads-of w p)
 
-valid-true : (c : List ℕ) (w : Waits) (p : List ℕ) → Distinct p → valid c w p ≡ true → TrueCycle c w (map (seat w) p)
+valid-true : (c : List ℕ) (w : Waits) (p : List ℕ) → Distinct p → valid c w p ≡ true → TrueCycle c w (map (entryOf w) p)
 valid-true c w p d e = record { once = rw (threads-of w p) d; closed = valid-closed c w p e }
-
--- ---- bytes
-
-seats-length : (w : Waits) (p : List ℕ) → length (map (seat w) p) ≡ length p
-seats-length w [] = refl
-seats-length w (t ∷ p) = ap suc (seats-length w p)
-
-entries-flat : (w : Waits) (p : List ℕ) → entries w p ≡ flat (map (seat w) p)
-unfolding entries flat
-entries-flat w [] = refl
-entries-flat w (t ∷ p) = ap (λ (l : List ℕ). t ∷ lockOf (intentOf w t) ∷ l) (entries-flat w p)
-
-pub bytes-spelled : (r : Report) → bytesOf r ≡ spelled (printed r)
-unfolding bytesOf
-bytes-spelled r = rw (seats-length (r .state) (r .threads), entries-flat (r .state) (r .threads))
 
 -- ---- a judgement
 
 -- a report made in tables w: true there, and of at most 32 threads
 pub record Made (c : List ℕ) (w : Waits) (r : Report) : Type 0 where
-  pub cycle : TrueCycle c (r .state) (printed r)
+  pub cycle : TrueCycle c (r .state) (entriesOf r)
   pub here : r .state ≡ w
-  pub long : length (bytesOf r) ≤ 65
+  pub long : length (bytesOf r) ≤ reportBytes
 
 pub record Fair (c : List ℕ) (a : Said) : Type 0 where
   pub fine : Fine (a .waits)
   pub few : length (a .reports) ≤ 1
-  pub true : Each (Made c (a .waits)) (a .reports)
+  pub each : Each (Made c (a .waits)) (a .reports)
 
 pub fair-quiet : (c : List ℕ) (w : Waits) → Fine w → Fair c (quiet w)
-fair-quiet c w f = record { fine = f; few = omega arith; true = tt }
+fair-quiet c w f = record { fine = f; few = omega arith; each = tt }
 
 fair-saying : (c : List ℕ) (w : Waits) (p : List ℕ) → Fine w → Distinct p → length p ≤ 32 → valid c w p ≡ true → Fair c (saying w p)
 fair-saying c w p f d n e =
     record {
       fine = f;
       few = omega arith;
-      true = (record { cycle = valid-true c w p d e; here = refl; long = omega (arith, length-bytes w p) }, tt);
+      each = (record { cycle = valid-true c w p d e; here = refl; long = omega (arith, length-bytes w p) }, tt);
     }
 
 fair-checked : (c : List ℕ) (w : Waits) (o : Option (List ℕ)) → Fine w → Neat o → Fits o → Fair c (checked c w o)

@@ -2,7 +2,7 @@
 use mathlib.Core.Path.{refl}
 use mathlib.Core.List.{List}
 use Rattle.demands.specs.Sessions.{Session, Seen, SessionsHold, FurtherHold, WaitsHold, ruled, told, run, sessions, further, seen, edgesIn, intentsIn}
-use Rattle.demands.specs.Reached.{answer, after}
+use Rattle.demands.specs.Reached.{answer, reach}
 use Rattle.detector.specs.Refusals.{refusal, outside}
 use Rattle.detector.specs.Stuck.{stuckCount, trueWaits, anyBack}
 use Rattle.detector.specs.Mutex.{acquired, completeAcquire, acquireSlow, released, releaseMutex, clearNaming, unholdAll, purge, destroyMutex}
@@ -14,7 +14,7 @@ use Rattle.waits.specs.Owners.{readers, waitsFor}
 use Rattle.waits.specs.Filter.{allHold, commonLocks}
 use Rattle.waits.specs.Validate.{around, valid, awaitedBy, awaitedLocks, checked, validate}
 use Rattle.waits.specs.Attempt.{settle, block, blockMutex, blockWrite}
-use Rattle.waits.specs.Report.{entries, bytesOf, written}
+use Rattle.waits.specs.Report.{entriesText, bytesOf, written}
 use Rattle.graph.specs.Graph.{cutAll, stored, closing, addEdge, addNext, addOwners, removeEdge, removeEdgesTo, clearWaitEdges}
 use Rattle.graph.specs.Search.{visit, expand, wayBack, search, findPath}
 use Rattle.sets.specs.Sets.{bit, with, without, upwardFrom}
@@ -23,7 +23,7 @@ use Rattle.sets.specs.Below.{each, those}
 
 -- every definition that a run opens, named once
 opened : List Session → List (List Seen)
-unfolding ruled run seen edgesIn intentsIn answer refusal outside stuckCount trueWaits anyBack acquired completeAcquire acquireSlow released releaseMutex clearNaming unholdAll purge destroyMutex countUp countDown completeRead acquireRead tryRead loosen releaseRead unwritten releaseWrite rwlock.written completeWrite blockWrite acquireWrite noReaders destroyRwLock createCondvar forget destroyCondvar beginWait attempted wake wakeAll notifyOne notifyAll leave endWait clear setIntent register renew renewAll refresh refreshNext refreshLocks readers waitsFor allHold commonLocks around valid awaitedBy awaitedLocks checked validate settle block blockMutex entries bytesOf written cutAll stored closing addEdge addNext addOwners removeEdge removeEdgesTo clearWaitEdges visit expand wayBack search findPath bit with without upwardFrom among each those
+unfolding ruled run seen edgesIn intentsIn answer refusal outside stuckCount trueWaits anyBack acquired completeAcquire acquireSlow released releaseMutex clearNaming unholdAll purge destroyMutex countUp countDown completeRead acquireRead tryRead loosen releaseRead unwritten releaseWrite rwlock.written completeWrite blockWrite acquireWrite noReaders destroyRwLock createCondvar forget destroyCondvar beginWait attempted wake wakeAll notifyOne notifyAll leave endWait clear setIntent register renew renewAll refresh refreshNext refreshLocks readers waitsFor allHold commonLocks around valid awaitedBy awaitedLocks checked validate settle block blockMutex entriesText bytesOf written cutAll stored closing addEdge addNext addOwners removeEdge removeEdgesTo clearWaitEdges visit expand wayBack search findPath bit with without upwardFrom among each those
 opened ss = ruled ss
 
 pub sessions-hold : SessionsHold
@@ -35,5 +35,5 @@ unfolding opened told further
 further-hold = refl
 
 pub waits-hold : WaitsHold
-unfolding after answer refusal outside beginWait createCondvar destroyCondvar forget each
+unfolding reach answer refusal outside beginWait createCondvar destroyCondvar forget each
 waits-hold = record { spawned = refl; gone = refl }

@@ -9,24 +9,24 @@ use Rattle.detector.specs.State.{refusalOf, refusedBy, Steps}
 use Rattle.detector.specs.declared.event.Event.{Event}
 use Rattle.detector.specs.declared.state.Detector.{Detector}
 use Rattle.detector.specs.declared.reply.Answered.{Answered}
-use Rattle.demands.specs.Feeds.{Call, Back, Feeds, Starts}
+use Rattle.demands.specs.Driven.{Call, Back, Driven, Starts}
 use Rattle.demands.specs.Typed.{Typed}
 
--- AN ANSWER AND AN END (`entry`): from every state that the types hold, valid or not, and for every event and buffer there
+-- AN ANSWER AND AN END (`step-answered`): from every state that the types hold, valid or not, and for every event and buffer there
 -- is a result that keeps the promise of a step, and its state is again one that the types hold. Over every record there
 -- would be none: one with more entries than its type holds passes the test for ranges and cannot be served.
-abbrev pub Entry : Type 0
-Entry = (d : Detector) (k : Call) → Typed d → (r : Answered) × (e : List ℕ) × Steps d (k .event) r (k .lent) e × Typed (r .detector)
+abbrev pub StepAnswered : Type 0
+StepAnswered = (d : Detector) (k : Call) → Typed d → (r : Answered) × (e : List ℕ) × Steps d (k .event) r (k .lent) e × Typed (r .detector)
 
 -- so any calls lead on, with an answer each (`all-answered`, `each-answered`); also from the empty state (`all-answered-from-new`)
 abbrev pub AllAnswered : Type 0
-AllAnswered = (d : Detector) → Typed d → (ks : List Call) → (bs : List Back) × (e : Detector) × Feeds d ks bs e × Typed e
+AllAnswered = (d : Detector) → Typed d → (ks : List Call) → (bs : List Back) × (e : Detector) × Driven d ks bs e × Typed e
 
 abbrev pub AllAnsweredFromNew : Type 0
-AllAnsweredFromNew = (d : Detector) → Starts d → (ks : List Call) → (bs : List Back) × (e : Detector) × Feeds d ks bs e
+AllAnsweredFromNew = (d : Detector) → Starts d → (ks : List Call) → (bs : List Back) × (e : Detector) × Driven d ks bs e
 
 abbrev pub EachAnswered : Type 0
-EachAnswered = (d e : Detector) (ks : List Call) (bs : List Back) → Feeds d ks bs e → length bs ≡ length ks
+EachAnswered = (d e : Detector) (ks : List Call) (bs : List Back) → Driven d ks bs e → length bs ≡ length ks
 
 -- REFUSED BY NUMBER (`refused-by-number`): the reply's number is that of document 01's table, 0 where it gives none, also
 -- in a state that keeps to no range; and after a refusal the state and the buffer are what they were

@@ -3,28 +3,20 @@
 -- The proof's part: whatever is fed from the empty state, all that comes back is what the rules say.
 use mathlib.Core.Path.{_≡_}
 use mathlib.Core.List.{List, [], _∷_}
-use mathlib.Core.Bool.{cond}
 use Prim.Native.Nat.{ℕ}
-use lib.Dec.{eqb}
 use lib.ListN.{length}
 use Rattle.waits.specs.Report.{written}
 use Rattle.waits.specs.Code.{laid}
 use Rattle.detector.specs.Tables.{Tables, empty}
-use Rattle.detector.specs.Refusals.{refusal}
 use Rattle.detector.specs.State.{tables, Valid, refusedBy, Steps}
 use Rattle.detector.specs.declared.event.Event.{Event}
 use Rattle.detector.specs.declared.state.Detector.{Detector}
 use Rattle.detector.specs.declared.reply.Answered.{Answered}
-use Rattle.detector.specs.declared.reply.Reply.{Reply}
-use Rattle.detector.specs.declared.reply.Reply.the-variants.{Reports, Refused}
-use Rattle.demands.specs.Reached.{answer, Reached}
-use Rattle.demands.specs.Feeds.{Call, Back, Feeds, Starts}
+use Rattle.demands.specs.Reached.{answer, replied, Reached}
+use Rattle.demands.specs.Driven.{Call, Back, Driven, Starts}
 use Rattle.demands.specs.Typed.{Typed}
 
--- THE RULES' RUN over the same calls: the refusal's number, or the number of reports; and every byte of the buffer
-abbrev pub replied : Tables → ℕ → Event → Reply
-replied x room e = cond (eqb (refusal x room e) 0) (Reports (length (answer x room e .reports))) (Refused (refusal x room e))
-
+-- THE RULES' RUN over the same calls: the reply, and every byte of the buffer
 abbrev pub backOf : Tables → Call → Back
 backOf x k =
     record {
@@ -39,9 +31,9 @@ unfoldable pub backs : Tables → List Call → List Back
 backs x [] = []
 backs x (k ∷ ks) = backOf x k ∷ backs (onward x k) ks
 
-unfoldable pub ends : Tables → List Call → Tables
-ends x [] = x
-ends x (k ∷ ks) = ends (onward x k) ks
+unfoldable pub reachBy : Tables → List Call → Tables
+reachBy x [] = x
+reachBy x (k ∷ ks) = reachBy (onward x k) ks
 
 -- none of the replies is refusal 2
 abbrev pub NoTwo : List Back → Type 0
@@ -51,18 +43,18 @@ NoTwo (b ∷ bs) = (refusedBy (b .reply) ≡ 2 → ⊥) × NoTwo bs
 -- THE THEOREM (`as-ruled`)
 pub record AsRuled (ks : List Call) (bs : List Back) (e : Detector) : Type 0 where
   pub answers : bs ≡ backs empty ks
-  pub tables : tables e ≡ ends empty ks
+  pub state : tables e ≡ reachBy empty ks
   pub valid : Valid e
-  pub reached : Reached (ends empty ks)
+  pub reached : Reached (reachBy empty ks)
   pub noTwo : NoTwo bs
 
 abbrev pub FedAsRuled : Type 0
-FedAsRuled = (d e : Detector) (ks : List Call) (bs : List Back) → Starts d → Feeds d ks bs e → AsRuled ks bs e
+FedAsRuled = (d e : Detector) (ks : List Call) (bs : List Back) → Starts d → Driven d ks bs e → AsRuled ks bs e
 
 -- so the promise leaves no choice (`coincide`): what is fed the same gives back the same and means the same
 abbrev pub Coincide : Type 0
 Coincide =
-    (d e d′ e′ : Detector) (ks : List Call) (bs bs′ : List Back) → Starts d → Feeds d ks bs e → Starts d′ → Feeds d′ ks bs′ e′
+    (d e d′ e′ : Detector) (ks : List Call) (bs bs′ : List Back) → Starts d → Driven d ks bs e → Starts d′ → Driven d′ ks bs′ e′
     → (bs ≡ bs′) × (tables e ≡ tables e′)
 
 -- nor does it in one call (`steps-coincide`), from any state that the types hold and with any event and buffer: two results

@@ -9,14 +9,14 @@ use Prim.Native.Nat.{ℕ, _<_}
 use lib.ListN.{length, take}
 use Rattle.sets.specs.Lists.{In, Distinct}
 use Rattle.sets.specs.Sets.{has}
-use Rattle.graph.specs.Ways.{Cycle}
+use Rattle.graph.specs.Ways.{Ring, Cycle}
 use Rattle.graph.specs.Graph.{Edge}
 use Rattle.waits.specs.Tables.{intentOf, holdsOf, ownerOf, writerOf, own}
 use Rattle.waits.specs.Owners.{countOf, owners}
 use Rattle.waits.specs.Waiting.{register}
 use Rattle.waits.specs.Validate.{names}
 use Rattle.waits.specs.Attempt.{mutexOn}
-use Rattle.waits.specs.Report.{Report, bytesOf, written}
+use Rattle.waits.specs.Report.{Report, Entry, entriesOf, written}
 use Rattle.waits.specs.Code.{laid}
 use Rattle.waits.specs.declared.tables.Waits.{Waits}
 use Rattle.waits.specs.declared.intent.WaitIntent.{WaitIntent}
@@ -26,37 +26,27 @@ use Rattle.waits.specs.declared.outcome.Outcome.the-variants.{Took, Blocked, Hi
 use Rattle.detector.specs.Tables.{Tables, queueOf}
 use Rattle.detector.specs.Condvar.{wakeAll}
 use Rattle.detector.specs.Refusals.{refusal}
-use Rattle.detector.specs.State.{tables, reportsIn, refusedBy, Steps}
+use Rattle.detector.specs.State.{tables, reportsOf, refusedBy, Steps}
 use Rattle.detector.specs.Stuck.{Truly}
 use Rattle.detector.specs.declared.event.Event.{Event}
 use Rattle.detector.specs.declared.event.Event.the-variants.{MutexAttempt, RwReadAttempt, RwWriteAttempt, CondvarNotifyAll}
 use Rattle.detector.specs.declared.state.Detector.{Detector}
 use Rattle.detector.specs.declared.reply.Answered.{Answered}
 use Rattle.demands.specs.Reached.{answer, Reached}
-use Rattle.demands.specs.Sessions.{Pairs, printed}
-use Rattle.demands.specs.Feeds.{Call, Back, Feeds, Starts}
+use Rattle.demands.specs.Driven.{Call, Back, Driven, Starts}
 
 -- A TRUE CYCLE in waits w with reader counts c
 -- p's thread awaits the lock beside its name and o owns it so as to block that wait. Read so: it has an intent that names
 -- the lock, and o is among the owners that block that intent (mutex owner, writer, readers), not "o holds the lock".
-pub record Blocks (c : List ℕ) (w : Waits) (p : ℕ × ℕ) (o : ℕ) : Type 0 where
+pub record Blocks (c : List ℕ) (w : Waits) (p : Entry) (o : ℕ) : Type 0 where
   pub intent : WaitIntent
-  pub awaits : intentOf w (p .0) ≡ For intent
-  pub beside : intent .«lock_id» ≡ p .1
+  pub awaits : intentOf w (p .thread) ≡ For intent
+  pub beside : intent .«lock_id» ≡ p .lock
   pub owns : In o (owners c w intent)
 
--- p waits for the first of r, each of r for the next, and the last for f
-abbrev pub Around : List ℕ → Waits → ℕ → ℕ × ℕ → Pairs → Type 0
-Around c w f p [] = Blocks c w p f
-Around c w f p (q ∷ r) = Blocks c w p (q .0) × Around c w f q r
-
-abbrev pub Closed : List ℕ → Waits → Pairs → Type 0
-Closed c w [] = ⊥
-Closed c w (p ∷ r) = Around c w (p .0) p r
-
-pub record TrueCycle (c : List ℕ) (w : Waits) (ps : Pairs) : Type 0 where
-  pub once : Distinct (map (λ p. p .0) ps)
-  pub closed : Closed c w ps
+pub record TrueCycle (c : List ℕ) (w : Waits) (ps : List Entry) : Type 0 where
+  pub once : Distinct (map (λ p. p .thread) ps)
+  pub closed : Ring (λ p q. Blocks c w p (q .thread)) ps
 
 -- THE STATE IN WHICH IT IS TRUE: that of its last validation, which is the state after the event; for ca, the state after
 -- some of the pairs are treated
@@ -66,19 +56,11 @@ treated x c n = wakeAll (x .«rwlock_readers») (record { waits = x .waits; woke
 abbrev pub Passed : Tables → Event → Tables → Waits → Type 0
 Passed x e y w = (w ≡ y .waits) ⊎ ((c : ℕ) × (n : ℕ) × (e ≡ CondvarNotifyAll c) × (w ≡ treated x c n))
 
--- ITS BYTES: one byte n, then n pairs of thread and lock
-unfoldable pub flat : Pairs → List ℕ
-flat [] = []
-flat (p ∷ ps) = p .0 ∷ p .1 ∷ flat ps
-
-abbrev pub spelled : Pairs → List ℕ
-spelled ps = length ps ∷ flat ps
-
--- what a report r of event e is, with tables x before the event and y after it
+-- what a report r of event e is, with tables x before the event and y after it. Its bytes are those of the same entries:
+-- `bytesOf` (waits/specs/Report.antt)
 pub record TrueReport (x : Tables) (e : Event) (y : Tables) (r : Report) : Type 0 where
-  pub cycle : TrueCycle (y .«rwlock_readers») (r .state) (printed r)
+  pub cycle : TrueCycle (y .«rwlock_readers») (r .state) (entriesOf r)
   pub passed : Passed x e y (r .state)
-  pub bytes : bytesOf r ≡ spelled (printed r)
 
 -- all of a list
 abbrev pub Each : (Report → Type 0) → List Report → Type 0
@@ -150,22 +132,22 @@ pub record SecondHalf : Type 0 where
   pub write : Attempted RwConverse RwWriteAttempt
 
 -- CARRIED TO THE CODE (`reports-true`, `converse`): the same of what `step` returns in a state fed from the empty one
-pub record Shows (d : Detector) (ev : Event) (r : Answered) (b e : List ℕ) : Type 0 where
+pub record TrueReports (d : Detector) (ev : Event) (r : Answered) (b e : List ℕ) : Type 0 where
   pub reports : List Report
-  pub count : reportsIn (r .reply) ≡ length reports
+  pub count : reportsOf (r .reply) ≡ length reports
   pub bytes : e ≡ laid b 0 (written reports)
-  pub true : Each (TrueReport (tables d) ev (tables (r .detector))) reports
+  pub each : Each (TrueReport (tables d) ev (tables (r .detector))) reports
 
 abbrev pub ReportsTrue : Type 0
 ReportsTrue =
-    (d₀ d : Detector) (ks : List Call) (bs : List Back) → Starts d₀ → Feeds d₀ ks bs d
-    → (ev : Event) (r : Answered) (b e : List ℕ) → Steps d ev r b e → Shows d ev r b e
+    (d₀ d : Detector) (ks : List Call) (bs : List Back) → Starts d₀ → Driven d₀ ks bs d
+    → (ev : Event) (r : Answered) (b e : List ℕ) → Steps d ev r b e → TrueReports d ev r b e
 
 abbrev pub Called : Converse → (ℕ → ℕ → Outcome → Event) → Type 0
 Called Holds event =
-    (d₀ d : Detector) (ks : List Call) (bs : List Back) → Starts d₀ → Feeds d₀ ks bs d → Exact (tables d)
+    (d₀ d : Detector) (ks : List Call) (bs : List Back) → Starts d₀ → Driven d₀ ks bs d → Exact (tables d)
     → (t l : ℕ) (o : Outcome) (r : Answered) (b e : List ℕ) → Steps d (event t l o) r b e → refusedBy (r .reply) ≡ 0
-    → Holds (tables d) t l o (reportsIn (r .reply)) (tables (r .detector))
+    → Holds (tables d) t l o (reportsOf (r .reply)) (tables (r .detector))
 
 pub record CalledHalf : Type 0 where
   pub mutex : Called MutexConverse MutexAttempt

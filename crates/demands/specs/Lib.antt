@@ -3,7 +3,7 @@
 pub mod Reached
 pub mod Sessions
 pub mod Invariants
-pub mod Feeds
+pub mod Driven
 pub mod Typed
 pub mod Demand1
 pub mod Demand2

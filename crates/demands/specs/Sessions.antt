@@ -6,8 +6,8 @@ use lib.ListN.{getD}
 use Rattle.sets.specs.Sets.{upward}
 use Rattle.sets.specs.Below.{each}
 use Rattle.graph.specs.Search.{row}
-use Rattle.waits.specs.Tables.{intentOf, lockOf}
-use Rattle.waits.specs.Report.{Report, written}
+use Rattle.waits.specs.Tables.{intentOf}
+use Rattle.waits.specs.Report.{Report, entriesOf, written}
 use Rattle.waits.specs.declared.tables.Waits.{Waits}
 use Rattle.waits.specs.declared.intent.Awaits.{Awaits}
 use Rattle.waits.specs.declared.intent.Awaits.the-variants.{Nothing, For}
@@ -20,7 +20,7 @@ use Rattle.detector.specs.Stuck.{stuckCount}
 use Rattle.detector.specs.declared.event.Event.{Event}
 use Rattle.detector.specs.declared.event.Event.the-variants.{MutexAttempt, MutexAcquired, MutexReleased, MutexExit, RwReadAttempt, RwReadAcquired, RwReadTry, RwReadReleased, RwWriteAttempt, RwWriteAcquired, RwWriteReleased, RwExit, CondvarSpawn, CondvarExit, CondvarWaitBegin, CondvarNotifyOne, CondvarNotifyAll, CondvarWaitEnd}
 use Rattle.detector.specs.declared.state.CvWait.{CvWait}
-use Rattle.demands.specs.Reached.{answer, room, after}
+use Rattle.demands.specs.Reached.{answer, room, reach}
 
 -- two numbers side by side: a thread and the lock that it awaits, or an edge
 abbrev pub Pairs : Type 0
@@ -48,7 +48,7 @@ intentsIn w = each (λ l t. l ++ intentFrom t (intentOf w t)) [] 32
 
 -- a report as document 01 prints it
 abbrev pub printed : Report → Pairs
-printed r = map (λ t. (t, lockOf (intentOf (r .state) t))) (r .threads)
+printed r = map (λ e. (e .thread, e .lock)) (entriesOf r)
 
 unfoldable pub seen : ℕ → Answer → Seen
 seen n a =
@@ -329,7 +329,7 @@ told ss = map (λ s. map (λ k. k .says) (s .lines)) ss
 
 -- cn keeps a thread's wait and cd drops it: no later event tells them apart, the tables do
 abbrev pub waitAfter : List Event → ℕ → CvWait
-waitAfter es t = getD (after empty es .«thread_wait_cv») t blankWait
+waitAfter es t = getD (reach empty es .«thread_wait_cv») t blankWait
 
 pub record WaitsHold : Type 0 where
   pub spawned : waitAfter (cb 2 0 5 ∷ cn 0 ∷ []) 2 ≡ record { condvar = 0; lock = 5 }

@@ -121,9 +121,9 @@ abbrev pub refusedBy : Reply → ℕ
 refusedBy (Reports n) = 0
 refusedBy (Refused k) = k
 
-abbrev pub reportsIn : Reply → ℕ
-reportsIn (Reports n) = n
-reportsIn (Refused k) = 0
+abbrev pub reportsOf : Reply → ℕ
+reportsOf (Reports n) = n
+reportsOf (Refused k) = 0
 
 -- what an answer with refusal number n says: a refusal gives its number and the same state and writes nothing; an
 -- accepted event is served by its rule

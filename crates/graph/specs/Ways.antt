@@ -51,11 +51,11 @@ pub record Found (E : Rel) (a b : ℕ) (p : List ℕ) : Type 0 where
   pub leads : Leads E a b p
   pub distinct : Distinct p
 
--- each thread has an edge to the next, the last to the first
-abbrev pub Round : Rel → ℕ → ℕ → List ℕ → Type 0
+-- each has an edge to the next, the last to the first: threads, or entries of a report
+abbrev pub Round : {A : Type 0} → (A → A → Type 0) → A → A → List A → Type 0
 Round E first a [] = E a first
 Round E first a (b ∷ r) = E a b × Round E first b r
 
-abbrev pub Ring : Rel → List ℕ → Type 0
+abbrev pub Ring : {A : Type 0} → (A → A → Type 0) → List A → Type 0
 Ring E [] = ⊥
 Ring E (a ∷ r) = Round E a a r

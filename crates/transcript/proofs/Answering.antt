@@ -1,14 +1,14 @@
 -- What an event's promise makes of the answer to its line.
 use mathlib.Core.Path.{_≡_, refl, sym, ap, ap₂, _∙_, subst}
 use mathlib.Core.List.{List, [], _∷_, _++_, map}
-use Prim.Native.Nat.{ℕ, zero, suc, _+_, _<_, _≤_}
+use Prim.Native.Nat.{ℕ, _+_, _<_, _≤_}
 use native.Mathlib.Omega.{arith}
 use lib.ListN.{length, drop, length-map}
 use lib.Seq.{sets-eq}
-use Rattle.waits.specs.Report.{Report, written, bytesOf, entries}
+use borrow.Author.Tests.{ne-eqb}
+use Rattle.waits.specs.Report.{Report, entriesOf, bytesOf, written}
 use Rattle.waits.specs.Code.{laid}
-use Rattle.waits.specs.declared.tables.Waits.{Waits}
-use Rattle.detector.specs.Tables.{Answer}
+use Rattle.detector.specs.Tables.{Tables, Answer, silent}
 use Rattle.detector.specs.Events.{apply}
 use Rattle.detector.specs.Refusals.{refusal}
 use Rattle.detector.specs.State.{tables, Does}
@@ -20,58 +20,61 @@ use Rattle.detector.specs.declared.reply.Reply.the-variants.{Reports, Refused}
 use Rattle.detector.proofs.Numbers.{refusal-known}
 use Rattle.demands.specs.Reached.{answer, room, Reached}
 use Rattle.demands.specs.Invariants.{most}
-use Rattle.demands.proofs.Events.{served}
+use Rattle.demands.proofs.Events.{served, unserved}
 use Rattle.demands.proofs.Invariants.{reached-few, reached-room, most-32}
 use Rattle.demands.proofs.Demands.{reached-next}
-use Rattle.answers.specs.Reports.{reportsIn, reportsSize, entriesBytes, reportsBytes}
-use Rattle.answers.specs.Answers.{reports}
+use Rattle.answers.specs.Reports.{reportsIn, reportsSize, reportsBytes}
 use Rattle.answers.proofs.Laid.{reports-read, reports-size}
 use Rattle.answers.proofs.Bounds.{Bytes}
 use Rattle.script.specs.declared.line.Line.{Line}
 use Rattle.script.specs.declared.line.Line.the-variants as line
-use Rattle.transcript.specs.Replay.{Result, itemOf, itemsOf, refused, eventResult, lineResult}
+use Rattle.transcript.specs.Replay.{Result, replying, lineResult}
 use Rattle.transcript.specs.Code.{Good, Results}
 
--- ---- the bytes of reports are those of their items
+-- ---- the bytes of reports are those of their entries
 
-entries-items : (w : Waits) (p : List ℕ) → entries w p ≡ entriesBytes (map (itemOf w) p)
-unfolding entries entriesBytes
-entries-items w [] = refl
-entries-items w (t ∷ p) = rw (entries-items w p)
-
-written-items : (rs : List Report) → written rs ≡ reportsBytes (map itemsOf rs)
+written-items : (rs : List Report) → written rs ≡ reportsBytes (map entriesOf rs)
 unfolding written reportsBytes bytesOf
 written-items [] = refl
-written-items (r ∷ rs) = rw (entries-items (r .state) (r .threads), length-map (r .threads) (itemOf (r .state)), written-items rs)
+written-items (r ∷ rs) = rw (written-items rs)
 
-laid-items : (b e : List ℕ) (rs : List Report) → length (written rs) ≤ length b → e ≡ laid b 0 (written rs) → e ≡ reportsBytes (map itemsOf rs) ++ drop (length (written rs)) b
+laid-items : (b e : List ℕ) (rs : List Report) → length (written rs) ≤ length b → e ≡ laid b 0 (written rs) → e ≡ reportsBytes (map entriesOf rs) ++ drop (length (written rs)) b
 unfolding laid
 laid-items b e rs h q =
     let z : 0 + length (written rs) ≡ length (written rs) = omega arith in
     q ∙ sets-eq (written rs) b 0 (omega arith) ∙ ap₂ (λ (x : List ℕ) (k : ℕ). x ++ drop k b) (written-items rs) z
 
-read-items : (b e : List ℕ) (rs : List Report) → length (written rs) ≤ length b → e ≡ laid b 0 (written rs) → reportsIn (length rs) e ≡ map itemsOf rs
+read-items : (b e : List ℕ) (rs : List Report) → length (written rs) ≤ length b → e ≡ laid b 0 (written rs) → reportsIn (length rs) e ≡ map entriesOf rs
 read-items b e rs h q =
-    ap₂ reportsIn (sym (length-map rs itemsOf)) (laid-items b e rs h q) ∙ reports-read (map itemsOf rs) (drop (length (written rs)) b)
+    ap₂ reportsIn (sym (length-map rs entriesOf)) (laid-items b e rs h q) ∙ reports-read (map entriesOf rs) (drop (length (written rs)) b)
 
 size-items : (b e : List ℕ) (rs : List Report) → length (written rs) ≤ length b → e ≡ laid b 0 (written rs) → reportsSize (length rs) e ≡ length (written rs)
 size-items b e rs h q =
-    ap₂ reportsSize (sym (length-map rs itemsOf)) (laid-items b e rs h q) ∙ reports-size (map itemsOf rs) (drop (length (written rs)) b) ∙ ap length (sym (written-items rs))
+    ap₂ reportsSize (sym (length-map rs entriesOf)) (laid-items b e rs h q) ∙ reports-size (map entriesOf rs) (drop (length (written rs)) b) ∙ ap length (sym (written-items rs))
 
 -- ---- a line that does not read, an event that is refused, one that is served
 
-pub refused-results : (d : Detector) (k : ℕ) (b : List ℕ) → Good d → k < 256 → Results (record { detector = d; reply = Refused k }) b (refused (tables d) k)
+abbrev served-by : Tables → Event → Result
+served-by x e = replying (Reports (length (apply e x .reports))) (apply e x)
+
+line-served : (x : Tables) (e : Event) → refusal x room e ≡ 0 → lineResult x (line.Event e) ≡ served-by x e
+line-served x e q = rw (served x room e q, q)
+
+line-refused : (x : Tables) (e : Event) → (refusal x room e ≡ 0 → ⊥) → lineResult x (line.Event e) ≡ replying (Refused (refusal x room e)) (silent x)
+line-refused x e q = rw (unserved x room e q, ne-eqb (refusal x room e) 0 q)
+
+pub refused-results : (d : Detector) (k : ℕ) (b : List ℕ) → Good d → k < 256 → Results (record { detector = d; reply = Refused k }) b (replying (Refused k) (silent (tables d)))
 unfolding reportsIn reportsSize
 refused-results d k b g h = record { good = g; state = refl; reply = refl; cycles = refl; held = omega arith; few = omega arith; small = h }
 
 served-results : (d : Detector) (e : Event) (r : Detector) (b c : List ℕ) → Good d → length b ≡ room → refusal (tables d) room e ≡ 0
     → Does (record { detector = r; reports = length (apply e (tables d) .reports) }) b c (apply e (tables d))
-    → Results (record { detector = r; reply = Reports (length (apply e (tables d) .reports)) }) c (eventResult (tables d) e 0)
+    → Results (record { detector = r; reply = Reports (length (apply e (tables d) .reports)) }) c (served-by (tables d) e)
 served-results d e r b c g n q s =
     let x = tables d in
     let a : answer x room e ≡ apply e x = served x room e q in
     let few : length (apply e x .reports) ≤ most e = subst (λ (z : Answer). length (z .reports) ≤ most e) a (reached-few x room e (g .reached)) in
-    let fits : length (written (apply e x .reports)) ≤ 2080 = subst (λ (z : Answer). length (written (z .reports)) ≤ 2080) a (reached-room x room e (g .reached)) in
+    let fits : length (written (apply e x .reports)) ≤ room = subst (λ (z : Answer). length (written (z .reports)) ≤ room) a (reached-room x room e (g .reached)) in
     let h : length (written (apply e x .reports)) ≤ length b = omega arith in
     record {
       good = record { valid = s .valid; reached = subst Reached (ap (λ (z : Answer). z .tables) a ∙ sym (s .state)) (reached-next x room e (g .reached)) };
@@ -104,17 +107,14 @@ module _ {d : Detector} {l : Line} {b : List ℕ} (g : Good d) (n : length b ≡
       → length z ≡ length b → Bytes z → c ≡ z → s ≡ r .detector → y ≡ Reports (r .reports) → Met d l b s y c
   met-served {e} {x} {k} {r} {c} {z} h q o u p w t c≡ s≡ y≡ =
       let none : refusal (tables d) room x ≡ 0 = ap₂ (λ (m : ℕ) (v : Event). refusal (tables d) m v) (sym n) (sym u) ∙ sym q ∙ o in
-      meet c≡ s≡ (y≡ ∙ ap Reports (p .count)) (ap (lineResult (tables d)) (h ∙ ap line.Event u) ∙ ap (eventResult (tables d) x) none)
+      meet c≡ s≡ (y≡ ∙ ap Reports (p .count)) (ap (lineResult (tables d)) (h ∙ ap line.Event u) ∙ line-served (tables d) x none)
       (served-results d x (r .detector) b z g n none (record { state = p .state; count = refl; bytes = p .bytes; valid = p .valid })) w t
 
   pub met-refused : {e : Event} {k : ℕ} {c : List ℕ} {s : Detector} {y : Reply} → Bytes b → l ≡ line.Event e → k ≡ refusal (tables d) (length b) e → (k ≡ 0 → ⊥) → c ≡ b → s ≡ d → y ≡ Refused k → Met d l b s y c
   met-refused {e} {k} t h q o c≡ s≡ y≡ =
       let same : refusal (tables d) room e ≡ k = ap (λ (m : ℕ). refusal (tables d) m e) (sym n) ∙ sym q in
-      meet c≡ s≡ y≡ (ap (lineResult (tables d)) h ∙ ap (eventResult (tables d) e) same ∙ go k o) (refused-results d k b g (omega (arith, refusal-known (tables d) room e .most))) refl t
-    where
-      go : (k : ℕ) → (k ≡ 0 → ⊥) → eventResult (tables d) e k ≡ refused (tables d) k
-      go zero o = absurd (o refl)
-      go (suc k) o = refl
+      meet c≡ s≡ y≡ (ap (lineResult (tables d)) h ∙ line-refused (tables d) e (λ z. o (sym same ∙ z)) ∙ ap (λ (m : ℕ). replying (Refused m) (silent (tables d))) same)
+      (refused-results d k b g (omega (arith, refusal-known (tables d) room e .most))) refl t
 
   pub met-unread : {c : List ℕ} {s : Detector} {y : Reply} → Bytes b → l ≡ line.Unread → c ≡ b → s ≡ d → y ≡ Refused 1 → Met d l b s y c
   met-unread t h c≡ s≡ y≡ = meet c≡ s≡ y≡ (ap (lineResult (tables d)) h) (refused-results d 1 b g (omega arith)) refl t

@@ -16,7 +16,7 @@ use native.Mathlib.Decide.{ℕ-discrete}
 use Rattle.detector.specs.Tables.{Tables, empty}
 use Rattle.detector.specs.State.{tables, Valid}
 use Rattle.detector.specs.declared.state.Detector.{Detector}
-use Rattle.demands.specs.Reached.{after as reach}
+use Rattle.demands.specs.Reached.{reach}
 use Rattle.detector.specs.Stuck.{stuckCount, edgeCount}
 use Rattle.transcript.specs.Lines.{lineFeed}
 use Rattle.transcript.specs.Replay.{Run, limit, lastText, after, textOf}
@@ -139,7 +139,7 @@ pub begins : (d : Detector) → tables d ≡ empty → Valid d → Begins (recor
 unfolding reach
 begins d e v =
     record {
-      good = record { valid = v; reached = record { events = []; ends = sym e } };
+      good = record { valid = v; reached = record { events = []; reaches = sym e } };
       run = ap (λ (x : Tables). record { lines = 0; tables = x }) e;
       have = refl;
     }

@@ -12,13 +12,13 @@ use Rattle.script.specs.Fields.{upTo}
 use Rattle.script.specs.Lines.{lineOf}
 use Rattle.script.proofs.Cut.{take-upTo}
 use Rattle.detector.specs.Tables.{Tables}
-use Rattle.detector.specs.State.{tables}
 use Rattle.detector.specs.declared.state.Detector.{Detector}
 use Rattle.detector.specs.declared.reply.Answered.{Answered}
 use Rattle.answers.specs.Text.{Room, Put}
-use Rattle.answers.specs.Answers.{reports, replyText, cyclesText, answerText, Held, answerRoom}
+use Rattle.answers.specs.Answers.{replyText, cyclesText, answerText, Held, answerRoom}
 use Rattle.answers.proofs.Bounds.{Bytes, answer-room, answer-bound}
-use Rattle.answers.specs.Reports.{Entry}
+use Rattle.waits.specs.Report.{Entry}
+use Rattle.detector.specs.State.{tables, reportsOf}
 use Rattle.detector.specs.declared.reply.Reply.{Reply}
 use Rattle.transcript.specs.Lines.{lineFeed}
 use Rattle.demands.specs.Reached.{room}
@@ -157,7 +157,7 @@ answer-result n y b a h = ap₂ (λ (q : Reply) (c : List (List Entry)). replyTe
 
 -- there is room for it, and what is put is the result's text
 module _ (n : ℕ) (a : Answered) (b : List ℕ) (q : Result) (small : n < 2 ^ 64) (bytes : Bytes b) (s : Results a b q) (out : List ℕ) (at : ℕ) where
-  pub told-room : length b ≡ room → at + answerRoom ≤ length out → Held (reports (a .reply)) b × Room out at (answerText n (a .reply) b)
+  pub told-room : length b ≡ room → at + answerRoom ≤ length out → Held (reportsOf (a .reply)) b × Room out at (answerText n (a .reply) b)
   told-room h w = (omega (arith, s .held), answer-room out at n (a .reply) b small (omega (arith, s .small)) bytes (s .few) (s .held) w)
 
   pub told-line : (out′ : List ℕ) (to : ℕ) → Put out at (answerText n (a .reply) b) out′ to

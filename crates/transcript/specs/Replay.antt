@@ -1,24 +1,17 @@
 -- WHAT REPLAY PRINTS for a script: "starts empty and goes on after refusals; lines after the 1,000,000th are not read".
-use Prim.Native.Nat.{ℕ, zero, suc, _+_}
+use Prim.Native.Nat.{ℕ, _+_}
 use mathlib.Core.Bool.{cond}
 use mathlib.Core.List.{List, [], _∷_, _++_, map}
 use lib.Dec.{ltb}
-use lib.ListN.{length}
-use Rattle.waits.specs.Tables.{intentOf, lockOf}
-use Rattle.waits.specs.Report.{Report}
-use Rattle.waits.specs.declared.tables.Waits.{Waits}
-use Rattle.detector.specs.Tables.{Tables, Answer, empty}
-use Rattle.detector.specs.Events.{apply}
-use Rattle.detector.specs.Refusals.{refusal}
+use Rattle.waits.specs.Report.{Entry, entriesOf}
+use Rattle.detector.specs.Tables.{Tables, Answer, silent, empty}
 use Rattle.detector.specs.Stuck.{stuckCount, edgeCount}
-use Rattle.detector.specs.declared.event.Event.{Event}
 use Rattle.detector.specs.declared.reply.Reply.{Reply}
-use Rattle.detector.specs.declared.reply.Reply.the-variants.{Reports, Refused}
-use Rattle.demands.specs.Reached.{room}
+use Rattle.detector.specs.declared.reply.Reply.the-variants.{Refused}
+use Rattle.demands.specs.Reached.{answer, replied, room}
 use Rattle.script.specs.Lines.{lineOf, lineRefusal}
 use Rattle.script.specs.declared.line.Line.{Line}
 use Rattle.script.specs.declared.line.Line.the-variants as line
-use Rattle.answers.specs.Reports.{Entry}
 use Rattle.answers.specs.Answers.{replyText, cyclesText, endText}
 use Rattle.transcript.specs.Lines.{linesOf}
 
@@ -33,28 +26,13 @@ pub record Result : Type 0 where
   pub reply : Reply
   pub cycles : List (List Entry)
 
--- a thread of a report, and the lock that it awaited in the state of the report's last validation
-abbrev pub itemOf : Waits → ℕ → Entry
-itemOf w t = record { thread = t; lock = lockOf (intentOf w t) }
+abbrev pub replying : Reply → Answer → Result
+replying y a = record { tables = a .tables; reply = y; cycles = map entriesOf (a .reports) }
 
-abbrev pub itemsOf : Report → List Entry
-itemsOf r = map (itemOf (r .state)) (r .threads)
-
-abbrev pub served : Answer → Result
-served a = record { tables = a .tables; reply = Reports (length (a .reports)); cycles = map itemsOf (a .reports) }
-
--- "a refusal returns its number and the same state and writes nothing"
-abbrev pub refused : Tables → ℕ → Result
-refused x k = record { tables = x; reply = Refused k; cycles = [] }
-
--- the event e, whose refusal is k; 0 for none
-abbrev pub eventResult : Tables → Event → ℕ → Result
-eventResult x e zero = served (apply e x)
-eventResult x e (suc k) = refused x (suc k)
-
+-- the rules' answer to its event; "a refusal returns its number and the same state and writes nothing"
 abbrev pub lineResult : Tables → Line → Result
-lineResult x (line.Event e) = eventResult x e (refusal x room e)
-lineResult x line.Unread = refused x (lineRefusal line.Unread)
+lineResult x (line.Event e) = replying (replied x room e) (answer x room e)
+lineResult x line.Unread = replying (Refused (lineRefusal line.Unread)) (silent x)
 
 unfoldable pub resultOf : Tables → List ℕ → Result
 resultOf x l = lineResult x (lineOf l)

@@ -1,11 +1,11 @@
 -- What is told is what the rules say: the report's bytes, and the judgement.
 use mathlib.Core.Path.{_≡_, refl, sym, ap, _∙_, subst}
-use mathlib.Core.List.{List, [], _∷_, _++_, append-nil}
+use mathlib.Core.List.{List, [], _∷_, _++_, map, append-nil}
 use mathlib.Core.Bool.{Bool, true, false, cond}
 use mathlib.Core.Option.{Option, none, some}
 use Prim.Native.Nat.{ℕ, suc, _+_, _*_, _-_, _<_, _≤_}
 use native.Mathlib.Omega.{arith}
-use lib.ListN.{length, take, drop, getD, set, replicate}
+use lib.ListN.{length, take, drop, getD, set, replicate, length-map}
 use lib.Seq.{length-take-le, take-append-seam, sets, length-sets}
 use Rattle.sets.proofs.Walk.{upward-zero}
 use Rattle.graph.specs.Code.{answered, added, foundIn, listOf, Fit}
@@ -14,7 +14,7 @@ use Rattle.graph.specs.declared.wait_for_graph.Added.{Added}
 use Rattle.graph.proofs.Fits.{found-in}
 use Rattle.waits.specs.Tables.{intentOf, lockOf, waitersOf, withGraph, InRange}
 use Rattle.waits.specs.Waiting.{Step, register, renewAll, refreshed, refresh, refreshLocks}
-use Rattle.waits.specs.Report.{Report, Said, report, entryBytes, entries, bytesOf, written, quiet, saying}
+use Rattle.waits.specs.Report.{Report, Said, report, Entry, entryOf, entryBytes, entriesText, bytesOf, written, quiet, saying}
 use Rattle.waits.specs.Validate.{valid, awaitedLocks, checked, validate}
 use Rattle.waits.specs.Attempt.{judgedOf, judged, sievedOf, settle, block, blockMutex, mutexOn, readOn, writeOn, free, blockWrite}
 use Rattle.waits.specs.Code.{told, laid, freeFor, sievedFor, attemptFor, Tells}
@@ -49,36 +49,40 @@ laid-one b at x l = ap (λ (k : ℕ). sets (set b at x) k l) (omega arith)
 
 -- ---- the report
 
+-- the bytes of the threads' entries
+unfoldable pub told-by : Waits → List ℕ → List ℕ
+told-by w p = entriesText (map (entryOf w) p)
+
 module _ (w : Waits) (ts : List ℕ) (n : ℕ) (b : n ≤ length ts) where
   pub entry-step : (buf : List ℕ) (at i : ℕ) → i < n
-      → laid (set (set buf at (getD ts i 0)) (at + 1) (lockOf (intentOf w (getD ts i 0)))) (at + entryBytes) (entries w (drop (i + 1) (take n ts)))
-      ≡ laid buf at (entries w (drop i (take n ts)))
-  unfolding entries
+      → laid (set (set buf at (getD ts i 0)) (at + 1) (lockOf (intentOf w (getD ts i 0)))) (at + entryBytes) (told-by w (drop (i + 1) (take n ts)))
+      ≡ laid buf at (told-by w (drop i (take n ts)))
+  unfolding told-by entriesText
   entry-step buf at i h =
       let e : at + 2 ≡ at + 1 + 1 = omega arith in
       rw e
-      (sym (ap (λ (l : List ℕ). laid buf at (entries w l)) (next-of ts n i h b)
+      (sym (ap (λ (l : List ℕ). laid buf at (told-by w l)) (next-of ts n i h b)
       ∙ laid-one buf at (getD ts i 0) _
-      ∙ laid-one (set buf at (getD ts i 0)) (at + 1) (lockOf (intentOf w (getD ts i 0))) (entries w (drop (i + 1) (take n ts)))))
+      ∙ laid-one (set buf at (getD ts i 0)) (at + 1) (lockOf (intentOf w (getD ts i 0))) (told-by w (drop (i + 1) (take n ts)))))
 
-  pub entry-end : (buf : List ℕ) (at i : ℕ) → n ≤ i → buf ≡ laid buf at (entries w (drop i (take n ts)))
-  unfolding entries
+  pub entry-end : (buf : List ℕ) (at i : ℕ) → n ≤ i → buf ≡ laid buf at (told-by w (drop i (take n ts)))
+  unfolding told-by entriesText
   entry-end buf at i h = rw (done-of ts n i h b) (sym (laid-none buf at))
 
-  pub report-head : (buf : List ℕ) (from : ℕ) → laid (set buf from n) (from + 1) (entries w (take n ts)) ≡ laid buf from (bytesOf (report w (take n ts)))
-  unfolding bytesOf
+  pub report-head : (buf : List ℕ) (from : ℕ) → laid (set buf from n) (from + 1) (told-by w (take n ts)) ≡ laid buf from (bytesOf (report w (take n ts)))
+  unfolding told-by bytesOf
   report-head buf from =
-      ap (λ (k : ℕ). laid (set buf from k) (from + 1) (entries w (take n ts))) (sym (length-take-le n ts b)) ∙ sym (laid-one buf from _ _)
+      ap (λ (k : ℕ). laid (set buf from k) (from + 1) (told-by w (take n ts))) (sym (length-map (take n ts) (entryOf w) ∙ length-take-le n ts b)) ∙ sym (laid-one buf from _ _)
 
-pub length-entries : (w : Waits) (p : List ℕ) → length (entries w p) ≡ entryBytes * length p
-unfolding entries
-length-entries w [] = refl
-length-entries w (t ∷ p) = omega (arith, length-entries w p)
+pub length-entries : (es : List Entry) → length (entriesText es) ≡ entryBytes * length es
+unfolding entriesText
+length-entries [] = refl
+length-entries (e ∷ es) = omega (arith, length-entries es)
 
 -- a report of n threads has 1 + entryBytes * n bytes
 pub length-bytes : (w : Waits) (p : List ℕ) → length (bytesOf (report w p)) ≡ 1 + entryBytes * length p
 unfolding bytesOf
-length-bytes w p = omega (arith, length-entries w p)
+length-bytes w p = omega (arith, length-entries (map (entryOf w) p), length-map p (entryOf w))
 
 written-one : (r : Report) → written (r ∷ []) ≡ bytesOf r
 unfolding written

@@ -1,5 +1,5 @@
 -- A REPORT: one byte n, then n pairs of thread and awaited lock in cycle order.
-use mathlib.Core.List.{List, [], _∷_, _++_}
+use mathlib.Core.List.{List, [], _∷_, _++_, map}
 use Prim.Native.Nat.{ℕ, _+_, _*_}
 use lib.ListN.{length}
 use Rattle.waits.specs.Tables.{intentOf, lockOf}
@@ -13,19 +13,35 @@ pub record Report : Type 0 where
 abbrev pub report : Waits → List ℕ → Report
 report w p = record { threads = p; state = w }
 
--- one entry, and its size
-abbrev pub entry : Waits → ℕ → List ℕ
-entry w t = t ∷ lockOf (intentOf w t) ∷ []
+-- an entry: a thread of the cycle, and the lock that it awaits
+pub record Entry : Type 0 where
+  pub thread : ℕ
+  pub lock : ℕ
+
+abbrev pub entryOf : Waits → ℕ → Entry
+entryOf w t = record { thread = t; lock = lockOf (intentOf w t) }
+
+-- the entries of a report, in cycle order
+abbrev pub entriesOf : Report → List Entry
+entriesOf r = map (entryOf (r .state)) (r .threads)
+
+-- an entry's bytes, and how many they are
+abbrev pub entryText : Entry → List ℕ
+entryText e = e .thread ∷ e .lock ∷ []
 
 abbrev pub entryBytes : ℕ
 entryBytes = 2
 
-unfoldable pub entries : Waits → List ℕ → List ℕ
-entries w [] = []
-entries w (t ∷ p) = entry w t ++ entries w p
+unfoldable pub entriesText : List Entry → List ℕ
+entriesText [] = []
+entriesText (e ∷ es) = entryText e ++ entriesText es
+
+-- the number of entries, and they
+abbrev pub cycleBytes : List Entry → List ℕ
+cycleBytes es = length es ∷ entriesText es
 
 unfoldable pub bytesOf : Report → List ℕ
-bytesOf r = length (r .threads) ∷ entries (r .state) (r .threads)
+bytesOf r = cycleBytes (entriesOf r)
 
 -- the longest: 32 entries and their number
 abbrev pub reportBytes : ℕ

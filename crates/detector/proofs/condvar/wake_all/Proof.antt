@@ -1,3 +1,4 @@
+use Rattle.waits.specs.Report.{reportBytes}
 use Rattle.detector.proofs.Queues.{wake-step, wake-none}
 use Rattle.detector.specs.State.{Wakes}
 use Rattle.detector.specs.Condvar.{Woken, wakeAll}
@@ -14,7 +15,7 @@ abbrev Inv-loop : tie.InvT-loop
 Inv-loop counts buf₀ q n a₀ i₀ buf a i =
     (i ≤ n)
     × (length buf ≡ length buf₀)
-    × (a .used ≤ 65 * i)
+    × (a .used ≤ reportBytes * i)
     × (a .reports ≤ i)
     × InRange (a .waits)
     × ((s : Woken) → Wakes a₀ buf₀ buf₀ s → Wakes a buf₀ buf (wakeAll counts s (take i (q .pairs))))

@@ -1,6 +1,6 @@
-use Rattle.waits.proofs.Telling.{entry-step, entry-end, report-head}
+use Rattle.waits.proofs.Telling.{told-by, entry-step, entry-end, report-head}
 use Rattle.waits.specs.Code.{laid}
-use Rattle.waits.specs.Report.{entryBytes, entries}
+use Rattle.waits.specs.Report.{entryBytes}
 use Rattle.graph.specs.Code.{listOf}
 use borrow.Author.Needs.{needs}
 use mathlib.Core.Path.{_≡_, refl, _∙_}
@@ -15,7 +15,7 @@ Inv-loop buf₀ from self cycle n at₀ i₀ buf at i =
     (i ≤ n)
     × (at ≡ from + 1 + entryBytes * i)
     × (length buf ≡ length buf₀)
-    × (laid buf at (entries self (drop i (listOf cycle))) ≡ laid buf₀ (from + 1) (entries self (listOf cycle)))
+    × (laid buf at (told-by self (drop i (listOf cycle))) ≡ laid buf₀ (from + 1) (told-by self (listOf cycle)))
 
 abbrev μ-loop : tie.MeasureT-loop
 μ-loop buf₀ from self cycle n at₀ i₀ buf at i = n - i

@@ -1,4 +1,4 @@
--- FEEDING THE DETECTOR: calls of the public entry `step` one after the other, by its promise `Steps` alone. Each call is
+-- DRIVING THE DETECTOR: calls of the public entry `step` one after the other, by its promise `Steps` alone. Each call is
 -- lent a buffer of its own, of any length and any bytes.
 use mathlib.Core.Path.{_≡_}
 use mathlib.Core.List.{List, [], _∷_}
@@ -19,11 +19,11 @@ pub record Back : Type 0 where
   pub reply : Reply
   pub buffer : List ℕ
 
--- the calls ks lead from state d to state e and give back bs
-pub data Feeds : Detector → List Call → List Back → Detector → Type 0 where
-  none : {d : Detector} → Feeds d [] [] d
+-- the calls ks drive it from state d to state e and give back bs
+pub data Driven : Detector → List Call → List Back → Detector → Type 0 where
+  none : {d : Detector} → Driven d [] [] d
   next : {d : Detector} {k : Call} {r : Answered} {b : List ℕ} {ks : List Call} {bs : List Back} {e : Detector}
-      → Steps d (k .event) r (k .lent) b → Feeds (r .detector) ks bs e → Feeds d (k ∷ ks) (record { reply = r .reply; buffer = b } ∷ bs) e
+      → Steps d (k .event) r (k .lent) b → Driven (r .detector) ks bs e → Driven d (k ∷ ks) (record { reply = r .reply; buffer = b } ∷ bs) e
 
 -- the empty state, as `new` gives it
 pub record Starts (d : Detector) : Type 0 where

@@ -23,9 +23,9 @@ use Rattle.detector.proofs.Numbers.{queue-at, queue-length}
 use Rattle.detector.proofs.Queues.{pairs-none}
 use Rattle.detector.proofs.Serving.{refuse, tested, untested}
 use Rattle.demands.specs.Invariants.{Seated, KeptWith}
-use Rattle.demands.specs.Feeds.{Starts}
+use Rattle.demands.specs.Driven.{Starts}
 use Rattle.demands.specs.Typed.{Typed}
-use Rattle.demands.specs.Demand1.{Entry}
+use Rattle.demands.specs.Demand1.{StepAnswered}
 use Rattle.demands.proofs.Keeping.{served-keeps}
 use Rattle.demands.proofs.Held.{Held, held-rules}
 use Rattle.demands.proofs.Fine.{held}
@@ -203,8 +203,8 @@ served-result d ev b k =
       typed-state (stateOf (a .tables)) v (subst (KeptWith Held) (sym (means (a .tables))) k),
     )
 
-pub entry : Entry
-entry d k y = go (refusalOf d (length (k .lent)) (k .event)) refl
+pub step-answered : StepAnswered
+step-answered d k y = go (refusalOf d (length (k .lent)) (k .event)) refl
   where
     go : (n : ℕ) → refusalOf d (length (k .lent)) (k .event) ≡ n → Result (refusalOf d (length (k .lent)) (k .event)) d (k .event) (k .lent)
     go zero z = rw z (served-result d (k .event) (k .lent) (served-held d (k .event) (length (k .lent)) y z))
