@@ -3,13 +3,13 @@ use mathlib.Core.Path.{_≡_, refl, _∙_}
 use mathlib.Core.Logic.{inl, inr}
 use mathlib.Core.List.{List, [], _∷_, foldl}
 use mathlib.Core.Bool.{Bool, true, false, cond}
-use Prim.Native.Nat.{ℕ, suc, _+_, _<_, _≤_}
+use Prim.Native.Nat.{ℕ, suc, _<_}
 use native.Mathlib.Omega.{arith}
 use lib.Dec.{eqb, ltb, lit≤}
-use lib.ListN.{length, length-append, take}
+use lib.ListN.{take}
 use borrow.Author.Tests.{eqb-true, ne-eqb}
 use Rattle.waits.specs.Tables.{ownerOf}
-use Rattle.waits.specs.Report.{Report, Said, quiet, bytesOf, reportBytes}
+use Rattle.waits.specs.Report.{Report, Said, quiet}
 use Rattle.waits.specs.Attempt.{block, blockMutex, readOn, writeOn, free, blockWrite}
 use Rattle.waits.specs.declared.tables.Waits.{Waits}
 use Rattle.waits.specs.declared.outcome.Outcome.the-variants.{Took, Blocked, Hinted}
@@ -25,7 +25,7 @@ use Rattle.detector.specs.declared.event.Event.the-variants.{MutexAttempt, Mute
 use Rattle.detector.specs.declared.state.Pair.{Pair}
 use Rattle.detector.proofs.Numbers.{inside-next, accepted}
 use Rattle.demands.specs.Reached.{answer}
-use Rattle.demands.specs.Invariants.{Fine, Seated, Kept, most}
+use Rattle.demands.specs.Invariants.{Fine, Seated, Kept}
 use Rattle.demands.specs.Demand3.{Passed, TrueReport, Each}
 use Rattle.demands.proofs.Keeping.{acquired-keeps, written-keeps}
 use Rattle.demands.proofs.Fine.{fine-own, fine-write, fine-rules}
@@ -40,54 +40,44 @@ accepted-full x room e h =
     let i = a .inside in
     inside-next (numbersOf e) reportRoom (full x e) (record { thread = i .thread; hint = i .hint; lock = i .lock; condvar = i .condvar; room = lit≤ tt }) ∙ a .notFull
 
--- ---- what an event is heard to do
+-- ---- what an event's reports are, with tables x before it and y after it
 
--- a report of event e, with tables x before it and y after it
-pub record Heard (x : Tables) (e : Event) (y : Tables) (r : Report) : Type 0 where
-  pub report : TrueReport x e y r
-  pub long : length (bytesOf r) ≤ reportBytes
+heard : (x : Tables) (e : Event) (y : Tables) {w : Waits} {r : Report} → Passed x e y (r .state) → Made (y .«rwlock_readers») w r → TrueReport x e y r
+heard x e y p m = record { cycle = m .cycle; passed = p }
 
-heard : (x : Tables) (e : Event) (y : Tables) {w : Waits} {r : Report} → Passed x e y (r .state) → Made (y .«rwlock_readers») w r → Heard x e y r
-heard x e y p m = record { report = record { cycle = m .cycle; passed = p }; long = m .long }
-
-pub record Answers (x : Tables) (e : Event) (a : Answer) : Type 0 where
-  pub few : length (a .reports) ≤ most e
-  pub each : Each (Heard x e (a .tables)) (a .reports)
-
-answers-silent : (x : Tables) (e : Event) (y : Tables) → Answers x e (silent y)
-answers-silent x e y = record { few = omega arith; each = tt }
+abbrev pub Answers : Tables → Event → Answer → Type 0
+Answers x e a = Each (TrueReport x e (a .tables)) (a .reports)
 
 -- one judgement, which is the last thing that the event does
-answers-one : (x : Tables) (e : Event) (y : Tables) (rs : List Report) → 1 ≤ most e → Fair (y .«rwlock_readers») (record { waits = y .waits; reports = rs })
+answers-one : (x : Tables) (e : Event) (y : Tables) (rs : List Report) → Fair (y .«rwlock_readers») (record { waits = y .waits; reports = rs })
     → Answers x e (record { tables = y; reports = rs })
-answers-one x e y rs n f =
-    record { few = omega (arith, f .few); each = each-map (Made (y .«rwlock_readers») (y .waits)) (Heard x e y) (λ r m. heard x e y (inl (m .here)) m) rs (f .each) }
+answers-one x e y rs f = each-map (Made (y .«rwlock_readers») (y .waits)) (TrueReport x e y) (λ r m. heard x e y (inl (m .here)) m) rs (f .each)
 
-answers-said : (x : Tables) (e : Event) (a : Said) → 1 ≤ most e → Fair (x .«rwlock_readers») a → Answers x e (said x a)
-answers-said x e a n f = answers-one x e (withWaits x (a .waits)) (a .reports) n f
+answers-said : (x : Tables) (e : Event) (a : Said) → Fair (x .«rwlock_readers») a → Answers x e (said x a)
+answers-said x e a f = answers-one x e (withWaits x (a .waits)) (a .reports) f
 
 -- ---- the attempts and what completes them
 
-module _ (x : Tables) (e : Event) (n : 1 ≤ most e) (k : Kept x) where
+module _ (x : Tables) (e : Event) (k : Kept x) where
   answers-acquire : (t l : ℕ) → t < 32 → l < 64 → Answers x e (completeAcquire x t l)
   unfolding completeAcquire
-  answers-acquire t l h i = answers-said x e _ n (fair-settle (x .«rwlock_readers») _ l (acquired-keeps fine-rules (x .waits) t l h i (k .waits)))
+  answers-acquire t l h i = answers-said x e _ (fair-settle (x .«rwlock_readers») _ l (acquired-keeps fine-rules (x .waits) t l h i (k .waits)))
 
   answers-slow : (w : Waits) (t l : ℕ) → t < 32 → l < 64 → Fine w → Answers x e (acquireSlow x w t l)
   unfolding acquireSlow
-  answers-slow w t l h i f = answers-said x e _ n (fair-mutex (x .«rwlock_readers») w t l h i f)
+  answers-slow w t l h i f = answers-said x e _ (fair-mutex (x .«rwlock_readers») w t l h i f)
 
   answers-write : (t l : ℕ) → t < 32 → l < 64 → Answers x e (completeWrite x t l)
   unfolding completeWrite
-  answers-write t l h i = answers-said x e _ n (fair-settle (x .«rwlock_readers») _ l (written-keeps fine-rules (x .waits) t l h i (k .waits)))
+  answers-write t l h i = answers-said x e _ (fair-settle (x .«rwlock_readers») _ l (written-keeps fine-rules (x .waits) t l h i (k .waits)))
 
   answers-read : (w : Waits) (t l : ℕ) → t < 32 → l < 64 → Fine w → Answers x e (acquireRead x w t l)
   unfolding acquireRead
-  answers-read w t l h i f = answers-said x e _ n (fair-block (x .«rwlock_readers») w t (readOn l) h i f)
+  answers-read w t l h i f = answers-said x e _ (fair-block (x .«rwlock_readers») w t (readOn l) h i f)
 
   answers-blocked : (w : Waits) (t l : ℕ) → t < 32 → l < 64 → Fine w → Answers x e (acquireWrite x w t l)
   unfolding acquireWrite blockWrite
-  answers-blocked w t l h i f = answers-said x e _ n (go (free (x .«rwlock_readers») w l))
+  answers-blocked w t l h i f = answers-said x e _ (go (free (x .«rwlock_readers») w l))
     where
       go : (b : Bool) → Fair (x .«rwlock_readers») (cond b (quiet w) (block (x .«rwlock_readers») w t (writeOn l)))
       go true = fair-quiet (x .«rwlock_readers») w f
@@ -105,74 +95,70 @@ fair-attempted c w p h i f = go (ltb (ownerOf w (p .lock)) 32)
     go false = fair-quiet c w f
 
 -- the walk over q from s, and what it says of the reports: P holds of those before and of each that is made on the way
-record Walked (P : Report → Type 0) (n : ℕ) (s : Woken) : Type 0 where
+record Walked (P : Report → Type 0) (s : Woken) : Type 0 where
   fine : Fine (s .waits)
-  count : length (s .reports) ≤ n
   each : Each P (s .reports)
 
-walked : (c : List ℕ) (P : Report → Type 0) (q : List Pair) (s : Woken) (n : ℕ) → Seated q → Walked P n s
-    → ((m : ℕ) (r : Report) → Made c (foldl (wake c) s (take m q) .waits) r → P r) → Walked P (n + length q) (foldl (wake c) s q)
+walked : (c : List ℕ) (P : Report → Type 0) (q : List Pair) (s : Woken) → Seated q → Walked P s
+    → ((m : ℕ) (r : Report) → Made c (foldl (wake c) s (take m q) .waits) r → P r) → Walked P (foldl (wake c) s q)
 unfolding wake
-walked c P [] s n k v h = record { fine = v .fine; count = omega (arith, v .count); each = v .each }
-walked c P (p ∷ q) s n k v h =
+walked c P [] s k v h = v
+walked c P (p ∷ q) s k v h =
     let a = fair-attempted c (s .waits) p (k .0) (k .1) (v .fine) in
-    let r = walked c P q (wake c s p) (suc n) (k .2) (record {
+    walked c P q (wake c s p) (k .2) (record {
       fine = a .fine;
-      count = omega (arith, length-append (s .reports) (attempted c (s .waits) p .reports), a .few, v .count);
       each = each-append P (s .reports) _ (v .each) (each-map (Made c (attempted c (s .waits) p .waits)) P (h 1) (attempted c (s .waits) p .reports) (a .each));
-    }) (λ m. h (suc m)) in
-    record { fine = r .fine; count = omega (arith, r .count); each = r .each }
+    }) (λ m. h (suc m))
 
 answers-all : (x : Tables) (c : ℕ) → Kept x → Answers x (CondvarNotifyAll c) (notifyAll x c)
 unfolding notifyAll wakeAll
 answers-all x c k =
-    let r = walked (x .«rwlock_readers») (Heard x (CondvarNotifyAll c) (notifyAll x c .tables)) (queueOf x c) (record { waits = x .waits; woken = x .«cv_woken»; reports = [] }) 0 (k .seated c)
-    (record { fine = k .waits; count = omega arith; each = tt })
-    (λ m r d. heard x (CondvarNotifyAll c) (notifyAll x c .tables) (inr (c, m, refl, d .here)) d) in
-    record { few = omega (arith, r .count, k .queues c); each = r .each }
+    walked (x .«rwlock_readers») (TrueReport x (CondvarNotifyAll c) (notifyAll x c .tables)) (queueOf x c) (record { waits = x .waits; woken = x .«cv_woken»; reports = [] }) (k .seated c)
+    (record { fine = k .waits; each = tt })
+    (λ m r d. heard x (CondvarNotifyAll c) (notifyAll x c .tables) (inr (c, m, refl, d .here)) d) .each
 
 answers-first : (x : Tables) (c : ℕ) → Kept x → Answers x (CondvarNotifyOne c) (notifyOne x c)
 unfolding notifyOne wakeAll wake
 answers-first x c k = go (queueOf x c) (k .seated c)
   where
     go : (q : List Pair) → Seated q → Answers x (CondvarNotifyOne c) (notifyFirst x c q)
-    go [] s = answers-silent x (CondvarNotifyOne c) x
+    go [] s = tt
     go (p ∷ q) s =
         let a = fair-attempted (x .«rwlock_readers») (x .waits) p (s .0) (s .1) (k .waits) in
-        answers-one x (CondvarNotifyOne c) (notifyFirst x c (p ∷ q) .tables) _ (lit≤ tt) a
+        answers-one x (CondvarNotifyOne c) (notifyFirst x c (p ∷ q) .tables) _ a
 
 -- ---- every event
 
 answers-apply : (x : Tables) (e : Event) (room : ℕ) → Inside (numbersOf e) room → Kept x → Answers x e (apply e x)
 unfolding releaseMutex destroyMutex completeRead tryRead releaseRead releaseWrite destroyRwLock createCondvar destroyCondvar beginWait endWait
-answers-apply x (MutexAttempt t l Took) n h k = answers-acquire x (MutexAttempt t l Took) (lit≤ tt) k t l (h .thread) (h .lock)
-answers-apply x (MutexAttempt t l Blocked) n h k = answers-slow x (MutexAttempt t l Blocked) (lit≤ tt) k (x .waits) t l (h .thread) (h .lock) (k .waits)
+answers-apply x (MutexAttempt t l Took) n h k = answers-acquire x (MutexAttempt t l Took) k t l (h .thread) (h .lock)
+answers-apply x (MutexAttempt t l Blocked) n h k = answers-slow x (MutexAttempt t l Blocked) k (x .waits) t l (h .thread) (h .lock) (k .waits)
 answers-apply x (MutexAttempt t l (Hinted o)) n h k =
-    answers-slow x (MutexAttempt t l (Hinted o)) (lit≤ tt) k _ t l (h .thread) (h .lock) (fine-own (x .waits) l o (omega (arith, h .hint)) (k .waits))
-answers-apply x (MutexAcquired t l) n h k = answers-acquire x (MutexAcquired t l) (lit≤ tt) k t l (h .thread) (h .lock)
-answers-apply x (MutexReleased t l) n h k = answers-silent x _ _
-answers-apply x (MutexExit l) n h k = answers-silent x _ _
-answers-apply x (RwReadAttempt t l Took) n h k = answers-silent x _ _
-answers-apply x (RwReadAttempt t l Blocked) n h k = answers-read x (RwReadAttempt t l Blocked) (lit≤ tt) k (x .waits) t l (h .thread) (h .lock) (k .waits)
+    answers-slow x (MutexAttempt t l (Hinted o)) k _ t l (h .thread) (h .lock) (fine-own (x .waits) l o (omega (arith, h .hint)) (k .waits))
+answers-apply x (MutexAcquired t l) n h k = answers-acquire x (MutexAcquired t l) k t l (h .thread) (h .lock)
+answers-apply x (MutexReleased t l) n h k = tt
+answers-apply x (MutexExit l) n h k = tt
+answers-apply x (RwReadAttempt t l Took) n h k = tt
+answers-apply x (RwReadAttempt t l Blocked) n h k = answers-read x (RwReadAttempt t l Blocked) k (x .waits) t l (h .thread) (h .lock) (k .waits)
 answers-apply x (RwReadAttempt t l (Hinted o)) n h k =
-    answers-read x (RwReadAttempt t l (Hinted o)) (lit≤ tt) k _ t l (h .thread) (h .lock) (fine-write (x .waits) l o (omega (arith, h .hint)) (k .waits))
-answers-apply x (RwReadAcquired t l) n h k = answers-silent x _ _
-answers-apply x (RwReadTry t l Taken) n h k = answers-silent x _ _
-answers-apply x (RwReadTry t l Missed) n h k = answers-silent x _ _
-answers-apply x (RwReadReleased t l) n h k = answers-silent x _ _
-answers-apply x (RwWriteAttempt t l Took) n h k = answers-write x (RwWriteAttempt t l Took) (lit≤ tt) k t l (h .thread) (h .lock)
-answers-apply x (RwWriteAttempt t l Blocked) n h k = answers-blocked x (RwWriteAttempt t l Blocked) (lit≤ tt) k (x .waits) t l (h .thread) (h .lock) (k .waits)
+    answers-read x (RwReadAttempt t l (Hinted o)) k _ t l (h .thread) (h .lock) (fine-write (x .waits) l o (omega (arith, h .hint)) (k .waits))
+answers-apply x (RwReadAcquired t l) n h k = tt
+answers-apply x (RwReadTry t l Taken) n h k = tt
+answers-apply x (RwReadTry t l Missed) n h k = tt
+answers-apply x (RwReadReleased t l) n h k = tt
+answers-apply x (RwWriteAttempt t l Took) n h k = answers-write x (RwWriteAttempt t l Took) k t l (h .thread) (h .lock)
+answers-apply x (RwWriteAttempt t l Blocked) n h k = answers-blocked x (RwWriteAttempt t l Blocked) k (x .waits) t l (h .thread) (h .lock) (k .waits)
 answers-apply x (RwWriteAttempt t l (Hinted o)) n h k =
-    answers-blocked x (RwWriteAttempt t l (Hinted o)) (lit≤ tt) k _ t l (h .thread) (h .lock) (fine-write (x .waits) l o (omega (arith, h .hint)) (k .waits))
-answers-apply x (RwWriteAcquired t l) n h k = answers-write x (RwWriteAcquired t l) (lit≤ tt) k t l (h .thread) (h .lock)
-answers-apply x (RwWriteReleased t l) n h k = answers-silent x _ _
-answers-apply x (RwExit l) n h k = answers-silent x _ _
-answers-apply x (CondvarSpawn c) n h k = answers-silent x _ _
-answers-apply x (CondvarExit c) n h k = answers-silent x _ _
-answers-apply x (CondvarWaitBegin t c l) n h k = answers-silent x _ _
+    answers-blocked x (RwWriteAttempt t l (Hinted o)) k _ t l (h .thread) (h .lock) (fine-write (x .waits) l o (omega (arith, h .hint)) (k .waits))
+answers-apply x (RwWriteAcquired t l) n h k = answers-write x (RwWriteAcquired t l) k t l (h .thread) (h .lock)
+answers-apply x (RwWriteReleased t l) n h k = tt
+answers-apply x (RwExit l) n h k = tt
+answers-apply x (CondvarSpawn c) n h k = tt
+answers-apply x (CondvarExit c) n h k = tt
+answers-apply x (CondvarWaitBegin t c l) n h k = tt
 answers-apply x (CondvarNotifyOne c) n h k = answers-first x c k
 answers-apply x (CondvarNotifyAll c) n h k = answers-all x c k
-answers-apply x (CondvarWaitEnd t c l) n h k = answers-silent x _ _
+answers-apply x (CondvarWaitEnd t c l) n h k = tt
 
 -- ---- an event, refused or not
 
@@ -190,4 +176,4 @@ answers-answer x room e k = go (eqb (refusal x room e) 0) refl
   where
     go : (b : Bool) → eqb (refusal x room e) 0 ≡ b → Answers x e (cond b (apply e x) (silent x))
     go true q = answers-apply x e room (accepted x room e (eqb-true _ _ q) .inside) k
-    go false q = answers-silent x e x
+    go false q = tt

@@ -3,11 +3,13 @@
 pub mod Sessions
 -- what the rules of waiting, the judgements and the events keep
 pub mod Keeping
+-- all-brief, valid-brief
+pub mod Brief
 pub mod Held
 pub mod Fine
 pub mod Reports
 pub mod Events
--- reached-kept, reached-few, reached-room; demand 3: first-half
+-- reached-kept, reached-brief; demand 3: first-half
 pub mod Invariants
 -- demand 3: second-half
 pub mod Exact

@@ -8,15 +8,16 @@ use Rattle.sets.specs.Sets.{has}
 use Rattle.graph.specs.Search.{row}
 use Rattle.graph.specs.Graph.{Good}
 use Rattle.waits.specs.Tables.{intentOf, waitersOf, InRange}
-use Rattle.waits.specs.Report.{written}
+use Rattle.waits.specs.Report.{Report, written}
 use Rattle.waits.specs.Validate.{names}
 use Rattle.waits.specs.declared.tables.Waits.{Waits}
 use Rattle.waits.specs.declared.intent.Slot.{Slot}
 use Rattle.detector.specs.Refusals.{reportRoom}
 use Rattle.detector.specs.Tables.{Tables, blankWait, queueOf}
-use Rattle.detector.specs.State.{Waiting}
+use Rattle.detector.specs.State.{tables, Waiting, Valid}
 use Rattle.detector.specs.declared.event.Event.{Event}
 use Rattle.detector.specs.declared.event.Event.the-variants.{MutexAttempt, MutexAcquired, MutexReleased, MutexExit, RwReadAttempt, RwReadAcquired, RwReadTry, RwReadReleased, RwWriteAttempt, RwWriteAcquired, RwWriteReleased, RwExit, CondvarSpawn, CondvarExit, CondvarWaitBegin, CondvarNotifyOne, CondvarNotifyAll, CondvarWaitEnd}
+use Rattle.detector.specs.declared.state.Detector.{Detector}
 use Rattle.detector.specs.declared.state.Pair.{Pair}
 use Rattle.demands.specs.Reached.{answer, Reached}
 
@@ -83,13 +84,24 @@ most (CondvarNotifyOne c) = 1
 most (CondvarNotifyAll c) = 32
 most (CondvarWaitEnd t c l) = 0
 
--- THE THEOREMS (`reached-kept`, `reached-few`, `reached-room`)
+-- so few reports, and 2,080 bytes always suffice
+pub record Brief (e : Event) (rs : List Report) : Type 0 where
+  pub few : length rs ≤ most e
+  pub room : length (written rs) ≤ reportRoom
+
+-- THE THEOREMS (`reached-kept`; `all-brief`, `valid-brief`, `reached-brief`). The last three: wherever no queue is longer than 32,
+-- so in every valid state of the code and in every reached one
 abbrev pub ReachedKept : Type 0
 ReachedKept = (x : Tables) → Reached x → Kept x
 
-abbrev pub ReachedFew : Type 0
-ReachedFew = (x : Tables) (room : ℕ) (e : Event) → Reached x → length (answer x room e .reports) ≤ most e
+abbrev pub ShortQueues : Tables → Type 0
+ShortQueues x = (c : ℕ) → c < 16 → length (queueOf x c) ≤ 32
 
--- 2,080 bytes always suffice
-abbrev pub ReachedRoom : Type 0
-ReachedRoom = (x : Tables) (room : ℕ) (e : Event) → Reached x → length (written (answer x room e .reports)) ≤ reportRoom
+abbrev pub AllBrief : Type 0
+AllBrief = (x : Tables) (room : ℕ) (e : Event) → ShortQueues x → Brief e (answer x room e .reports)
+
+abbrev pub ValidBrief : Type 0
+ValidBrief = (d : Detector) (room : ℕ) (e : Event) → Valid d → Brief e (answer (tables d) room e .reports)
+
+abbrev pub ReachedBrief : Type 0
+ReachedBrief = (x : Tables) (room : ℕ) (e : Event) → Reached x → Brief e (answer x room e .reports)

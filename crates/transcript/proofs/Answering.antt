@@ -19,9 +19,9 @@ use Rattle.detector.specs.declared.reply.Reply.{Reply}
 use Rattle.detector.specs.declared.reply.Reply.the-variants.{Reports, Refused}
 use Rattle.detector.proofs.Numbers.{refusal-known}
 use Rattle.demands.specs.Reached.{answer, room, Reached}
-use Rattle.demands.specs.Invariants.{most}
+use Rattle.demands.specs.Invariants.{Brief}
 use Rattle.demands.proofs.Events.{served, unserved}
-use Rattle.demands.proofs.Invariants.{reached-few, reached-room, most-32}
+use Rattle.demands.proofs.Brief.{most-32, valid-brief}
 use Rattle.demands.proofs.Demands.{reached-next}
 use Rattle.answers.specs.Reports.{reportsIn, reportsSize, reportsBytes}
 use Rattle.answers.proofs.Laid.{reports-read, reports-size}
@@ -73,17 +73,16 @@ served-results : (d : Detector) (e : Event) (r : Detector) (b c : List ℕ) → 
 served-results d e r b c g n q s =
     let x = tables d in
     let a : answer x room e ≡ apply e x = served x room e q in
-    let few : length (apply e x .reports) ≤ most e = subst (λ (z : Answer). length (z .reports) ≤ most e) a (reached-few x room e (g .reached)) in
-    let fits : length (written (apply e x .reports)) ≤ room = subst (λ (z : Answer). length (written (z .reports)) ≤ room) a (reached-room x room e (g .reached)) in
-    let h : length (written (apply e x .reports)) ≤ length b = omega arith in
+    let brief : Brief e (apply e x .reports) = subst (λ (z : Answer). Brief e (z .reports)) a (valid-brief d room e (g .valid)) in
+    let h : length (written (apply e x .reports)) ≤ length b = omega (arith, brief .room) in
     record {
       good = record { valid = s .valid; reached = subst Reached (ap (λ (z : Answer). z .tables) a ∙ sym (s .state)) (reached-next x room e (g .reached)) };
       state = s .state;
       reply = refl;
       cycles = read-items b c (apply e x .reports) h (s .bytes);
-      held = omega (arith, size-items b c (apply e x .reports) h (s .bytes));
-      few = omega (arith, most-32 e);
-      small = omega (arith, most-32 e);
+      held = omega (arith, brief .room, size-items b c (apply e x .reports) h (s .bytes));
+      few = omega (arith, brief .few, most-32 e);
+      small = omega (arith, brief .few, most-32 e);
     }
 
 -- ---- where the ways of a line meet: what is answered, and a buffer of bytes, as long as before
