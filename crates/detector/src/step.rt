@@ -22,7 +22,7 @@ fn answered(d: Done) -> Answered
 
 impl Detector {
     // The inner entry, for a state that is known to be valid: no scan.
-    pub fn step_within(self, e: Event, buf: &mut [u8]) -> Answered
+    pub(crate) fn step_within(self, e: Event, buf: &mut [u8]) -> Answered
         requires { ⌜ Valid self ⌝ }
         ensures { λ r. ⌜ Answers (refusal (tables self) (length (now (buf .entry))) e) self e r (now (buf .entry)) (now (buf .exit)) ⌝ }
     {

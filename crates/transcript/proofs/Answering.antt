@@ -11,25 +11,24 @@ use Rattle.waits.specs.Code.{laid}
 use Rattle.detector.specs.Tables.{Tables, Answer, silent}
 use Rattle.detector.specs.Events.{apply}
 use Rattle.detector.specs.Refusals.{refusal}
-use Rattle.detector.specs.State.{tables, Does}
+use Rattle.detector.specs.State.{tables, Valid, Does}
 use Rattle.detector.specs.declared.event.Event.{Event}
 use Rattle.detector.specs.declared.state.Detector.{Detector}
 use Rattle.detector.specs.declared.reply.Done.{Done}
 use Rattle.detector.specs.declared.reply.Reply.{Reply}
 use Rattle.detector.specs.declared.reply.Reply.the-variants.{Reports, Refused}
 use Rattle.detector.proofs.Numbers.{refusal-known}
-use Rattle.demands.specs.Reached.{answer, room, Reached}
+use Rattle.demands.specs.Reached.{answer, room}
 use Rattle.demands.specs.Invariants.{Brief}
 use Rattle.demands.proofs.Events.{served, unserved}
 use Rattle.demands.proofs.Brief.{most-32, valid-brief}
-use Rattle.demands.proofs.Demands.{reached-next}
 use Rattle.answers.specs.Reports.{reportsIn, reportsSize, reportsBytes}
 use Rattle.answers.proofs.Laid.{reports-read, reports-size}
 use Rattle.answers.proofs.Bounds.{Bytes}
 use Rattle.script.specs.declared.line.Line.{Line}
 use Rattle.script.specs.declared.line.Line.the-variants as line
 use Rattle.transcript.specs.Replay.{Result, replying, lineResult}
-use Rattle.transcript.specs.Code.{Good, Results}
+use Rattle.transcript.specs.Code.{Results}
 
 -- ---- the bytes of reports are those of their entries
 
@@ -63,20 +62,20 @@ line-served x e q = rw (served x room e q, q)
 line-refused : (x : Tables) (e : Event) → (refusal x room e ≡ 0 → ⊥) → lineResult x (line.Event e) ≡ replying (Refused (refusal x room e)) (silent x)
 line-refused x e q = rw (unserved x room e q, ne-eqb (refusal x room e) 0 q)
 
-pub refused-results : (d : Detector) (k : ℕ) (b : List ℕ) → Good d → k < 256 → Results (record { detector = d; reply = Refused k }) b (replying (Refused k) (silent (tables d)))
+pub refused-results : (d : Detector) (k : ℕ) (b : List ℕ) → Valid d → k < 256 → Results (record { detector = d; reply = Refused k }) b (replying (Refused k) (silent (tables d)))
 unfolding reportsIn reportsSize
-refused-results d k b g h = record { good = g; state = refl; reply = refl; cycles = refl; held = omega arith; few = omega arith; small = h }
+refused-results d k b g h = record { valid = g; state = refl; reply = refl; cycles = refl; held = omega arith; few = omega arith; small = h }
 
-served-results : (d : Detector) (e : Event) (r : Detector) (b c : List ℕ) → Good d → length b ≡ room → refusal (tables d) room e ≡ 0
+served-results : (d : Detector) (e : Event) (r : Detector) (b c : List ℕ) → Valid d → length b ≡ room → refusal (tables d) room e ≡ 0
     → Does (record { detector = r; reports = length (apply e (tables d) .reports) }) b c (apply e (tables d))
     → Results (record { detector = r; reply = Reports (length (apply e (tables d) .reports)) }) c (served-by (tables d) e)
 served-results d e r b c g n q s =
     let x = tables d in
     let a : answer x room e ≡ apply e x = served x room e q in
-    let brief : Brief e (apply e x .reports) = subst (λ (z : Answer). Brief e (z .reports)) a (valid-brief d room e (g .valid)) in
+    let brief : Brief e (apply e x .reports) = subst (λ (z : Answer). Brief e (z .reports)) a (valid-brief d room e g) in
     let h : length (written (apply e x .reports)) ≤ length b = omega (arith, brief .room) in
     record {
-      good = record { valid = s .valid; reached = subst Reached (ap (λ (z : Answer). z .tables) a ∙ sym (s .state)) (reached-next x room e (g .reached)) };
+      valid = s .valid;
       state = s .state;
       reply = refl;
       cycles = read-items b c (apply e x .reports) h (s .bytes);
@@ -92,7 +91,7 @@ pub record Met (d : Detector) (l : Line) (b : List ℕ) (s : Detector) (y : Repl
   pub long : length c ≡ length b
   pub bytes : Bytes c
 
-module _ {d : Detector} {l : Line} {b : List ℕ} (g : Good d) (n : length b ≡ room) where
+module _ {d : Detector} {l : Line} {b : List ℕ} (g : Valid d) (n : length b ≡ room) where
   meet : {s z : Detector} {y q : Reply} {c e : List ℕ} {a : Result} → c ≡ e → s ≡ z → y ≡ q → lineResult (tables d) l ≡ a → Results (record { detector = z; reply = q }) e a → length e ≡ length b → Bytes e → Met d l b s y c
   meet {s} {z} {y} {q} {c} {e} {a} c≡ s≡ y≡ a≡ r w k =
       record {

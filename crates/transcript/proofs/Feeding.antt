@@ -16,7 +16,6 @@ use native.Mathlib.Decide.{ℕ-discrete}
 use Rattle.detector.specs.Tables.{Tables, empty}
 use Rattle.detector.specs.State.{tables, Valid}
 use Rattle.detector.specs.declared.state.Detector.{Detector}
-use Rattle.demands.specs.Reached.{reach}
 use Rattle.detector.specs.Stuck.{stuckCount, edgeCount}
 use Rattle.transcript.specs.Lines.{lineFeed}
 use Rattle.transcript.specs.Replay.{Run, limit, lastText, after, textOf}
@@ -136,13 +135,12 @@ open-line m h k = go (m .part) (m .run) h (lt-ltb (m .run .lines) limit k)
 -- ---- the start
 
 pub begins : (d : Detector) → tables d ≡ empty → Valid d → Begins (record { detector = d; lines = 0; have = 0 })
-unfolding reach
 begins d e v =
     record {
-      good = record { valid = v; reached = record { events = []; reaches = sym e } };
+      valid = v;
       run = ap (λ (x : Tables). record { lines = 0; tables = x }) e;
       have = refl;
     }
 
 pub begins-kept : {r : code.Run} {carry : List ℕ} → Begins r → length carry ≡ carrySize → Kept r carry
-begins-kept b h = record { good = b .good; lines = omega (arith, ap (λ (u : Run). u .lines) (b .run)); have = omega (arith, b .have); long = h }
+begins-kept b h = record { valid = b .valid; lines = omega (arith, ap (λ (u : Run). u .lines) (b .run)); have = omega (arith, b .have); long = h }

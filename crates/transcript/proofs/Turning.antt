@@ -18,13 +18,13 @@ use Rattle.answers.specs.Text.{Room, Put}
 use Rattle.answers.specs.Answers.{replyText, cyclesText, answerText, Held, answerRoom}
 use Rattle.answers.proofs.Bounds.{Bytes, answer-room, answer-bound}
 use Rattle.waits.specs.Report.{Entry}
-use Rattle.detector.specs.State.{tables, reportsOf}
+use Rattle.detector.specs.State.{tables, reportsOf, Valid}
 use Rattle.detector.specs.declared.reply.Reply.{Reply}
 use Rattle.transcript.specs.Lines.{lineFeed}
 use Rattle.demands.specs.Reached.{room}
 use Rattle.transcript.specs.Replay.{Run, Result, limit, lineResult, resultOf, resultText, after, lineText}
 use Rattle.transcript.specs.Chunks.{carrySize, Mid, mid, step, said, fed, says}
-use Rattle.transcript.specs.Code.{Good, Results, runOf, midOf, Kept, between, Moves}
+use Rattle.transcript.specs.Code.{Results, runOf, midOf, Kept, between, Moves}
 use Rattle.transcript.specs.declared.run.Run as code
 use Rattle.transcript.specs.declared.run.Turned.{Turned}
 use Rattle.script.specs.declared.line.Line.{Line}
@@ -161,10 +161,10 @@ module _ (n : ℕ) (a : Answered) (b : List ℕ) (q : Result) (small : n < 2 ^ 6
   told-room h w = (omega (arith, s .held), answer-room out at n (a .reply) b small (omega (arith, s .small)) bytes (s .few) (s .held) w)
 
   pub told-line : (out′ : List ℕ) (to : ℕ) → Put out at (answerText n (a .reply) b) out′ to
-      → Good (a .detector) × (tables (a .detector) ≡ q .tables) × Put out at (resultText n q) out′ to × (to ≤ at + answerRoom)
+      → Valid (a .detector) × (tables (a .detector) ≡ q .tables) × Put out at (resultText n q) out′ to × (to ≤ at + answerRoom)
   told-line out′ to p =
       let w = answer-bound n (a .reply) b small (omega (arith, s .small)) bytes (s .few) (s .held) in
-      (s .good, s .state, subst (λ (t : List ℕ). Put out at t out′ to) (answer-result n a b q s) p, omega (arith, p .place, w))
+      (s .valid, s .state, subst (λ (t : List ℕ). Put out at t out′ to) (answer-result n a b q s) p, omega (arith, p .place, w))
 
 pub after-line : (r : Run) (l : List ℕ) (x : Tables) (n : ℕ) → n ≡ r .lines + 1 → x ≡ lineResult (r .tables) (lineOf l) .tables → mid [] (record { lines = n; tables = x }) ≡ mid [] (after r l)
 unfolding after resultOf
@@ -192,7 +192,7 @@ carried-turn r carry carry′ chunk out from e at h k n i f q w p =
     let j : from ≤ length chunk = omega arith in
     record {
       moves = record {
-        kept = record { good = k .good; lines = k .lines; have = p .0; long = w ∙ k .long };
+        kept = record { valid = k .valid; lines = k .lines; have = p .0; long = w ∙ k .long };
         onward = omega (arith, f .0);
         inside = f .1;
         after = ap (λ (z : List ℕ). mid z (runOf r)) (p .1 ∙ ap (λ (z : List ℕ). take carrySize (take (r .have) carry ++ z)) (slice-cut from e chunk j (omega (arith, f .0)))) ∙ sym (part-fed (r .have) carry (runOf r) (k .have) n chunk from e j (f .0));
@@ -207,7 +207,7 @@ carried-turn r carry carry′ chunk out from e at h k n i f q w p =
 pub line-turn : (r : code.Run) (carry carry′ chunk out out′ : List ℕ) (from e at to : ℕ) (d : Detector) (l : Line) → Kept r carry → r .lines < limit → from < length chunk
     → (e ≡ from + length (upTo lineFeed (drop from chunk))) × (e ≤ length chunk) → (e ≡ length chunk → ⊥) → length carry′ ≡ length carry
     → l ≡ lineOf (take (r .have) carry ++ take (e - from) (drop from chunk))
-    → Good d × (tables d ≡ lineResult (tables (r .detector)) l .tables) × Put out at (resultText (r .lines + 1) (lineResult (tables (r .detector)) l)) out′ to × (to ≤ at + answerRoom)
+    → Valid d × (tables d ≡ lineResult (tables (r .detector)) l .tables) × Put out at (resultText (r .lines + 1) (lineResult (tables (r .detector)) l)) out′ to × (to ≤ at + answerRoom)
     → Turns r carry chunk from out at (record { run = record { detector = d; lines = r .lines + 1; have = 0 }; next = e + 1; at = to }) carry′ out′
 line-turn r carry carry′ chunk out out′ from e at to d l k n i f q w c p =
     let j : from ≤ length chunk = omega arith in
@@ -216,7 +216,7 @@ line-turn r carry carry′ chunk out out′ from e at to d l k n i f q w c p =
     let line : List ℕ = take (r .have) carry ++ between from e chunk in
     record {
       moves = record {
-        kept = record { good = p .0; lines = omega arith; have = omega arith; long = w ∙ k .long };
+        kept = record { valid = p .0; lines = omega arith; have = omega arith; long = w ∙ k .long };
         onward = omega (arith, f .0);
         inside = omega arith;
         after = after-line (runOf r) line (tables d) (r .lines + 1) refl (p .1 ∙ ap (λ (z : Line). lineResult (tables (r .detector)) z .tables) u)

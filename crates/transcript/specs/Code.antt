@@ -4,9 +4,8 @@ use mathlib.Core.List.{List}
 use Prim.Native.Nat.{ℕ, _+_, _*_, _-_, _<_, _≤_}
 use lib.ListN.{length, take, drop}
 use Rattle.detector.specs.State.{tables, reportsOf, Valid}
-use Rattle.detector.specs.declared.state.Detector.{Detector}
 use Rattle.detector.specs.declared.reply.Answered.{Answered}
-use Rattle.demands.specs.Reached.{room, Reached}
+use Rattle.demands.specs.Reached.{room}
 use Rattle.answers.specs.Text.{Put}
 use Rattle.answers.specs.Reports.{reportsIn, reportsSize}
 use Rattle.answers.specs.Answers.{number, answerRoom}
@@ -16,14 +15,9 @@ use Rattle.transcript.specs.Chunks.{carrySize, Mid, mid, fed, says}
 use Rattle.transcript.specs.declared.run.Run.{Run}
 use Rattle.transcript.specs.declared.run.Turned.{Turned}
 
--- a state of a run: valid, and reached from the empty state
-pub record Good (d : Detector) : Type 0 where
-  pub valid : Valid d
-  pub reached : Reached (tables d)
-
 -- what is returned, with the reports in the buffer b, is the result a
 pub record Results (r : Answered) (b : List ℕ) (a : Result) : Type 0 where
-  pub good : Good (r .detector)
+  pub valid : Valid (r .detector)
   pub state : tables (r .detector) ≡ a .tables
   pub reply : r .reply ≡ a .reply
   pub cycles : reportsIn (reportsOf (r .reply)) b ≡ a .cycles
@@ -40,12 +34,12 @@ midOf r carry = mid (take (r .have) carry) (runOf r)
 
 -- before the first line
 pub record Begins (r : Run) : Type 0 where
-  pub good : Good (r .detector)
+  pub valid : Valid (r .detector)
   pub run : runOf r ≡ begun
   pub have : r .have ≡ 0
 
 pub record Kept (r : Run) (carry : List ℕ) : Type 0 where
-  pub good : Good (r .detector)
+  pub valid : Valid (r .detector)
   pub lines : r .lines ≤ limit
   pub have : r .have ≤ carrySize
   pub long : length carry ≡ carrySize

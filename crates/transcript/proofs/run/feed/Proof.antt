@@ -101,11 +101,11 @@ enum-known-line : tie.Need-enum-known-line Inv-loop μ-loop
 enum-known-line c = search needs
 
 refusal-requires : tie.Need-refusal-requires Inv-loop μ-loop
-refusal-requires c κs = c .before .before .before .before .before .before .before .before .before .before .before .before .before .loop .inv .0 .kept .good .valid
+refusal-requires c κs = c .before .before .before .before .before .before .before .before .before .before .before .before .before .loop .inv .0 .kept .valid
 
 -- the state is valid, and the event is not refused
 valid : (c : tie.Then4 Inv-loop μ-loop) → Valid (c .before .before .before .before .before .before .before .before .before .before .before .before .before .before .before .loop .s)
-valid c = c .before .before .before .before .before .before .before .before .before .before .before .before .before .before .before .loop .inv .0 .kept .good .valid
+valid c = c .before .before .before .before .before .before .before .before .before .before .before .before .before .before .before .loop .inv .0 .kept .valid
 
 not-refused : (c : tie.Then4 Inv-loop μ-loop) → Accepted (tables (c .before .before .before .before .before .before .before .before .before .before .before .before .before .before .before .loop .s)) (length (c .before .before .before .before .before .before .before .before .before .before .before .before .before .before .before .loop .buf)) (c .before .before .before .line .given .0 .0)
 not-refused c = accepted _ _ _ (sym (c .before .refusal .ensures) ∙ c .if4 .taken)
@@ -279,7 +279,7 @@ enum-told c = search needs
 met : (c : tie.At-match-came Inv-loop μ-loop) → Met (c .before .before .before .before .before .before .before .before .before .before .before .loop .s) (c .before .before .before .line-of .result) (c .before .before .before .before .before .before .before .before .before .before .before .loop .buf) (c .match .s) (c .match .reply) (c .match .buf)
 met c =
     let l = c .before .before .before .before .before .before .before .before .before .before .before .loop in
-    let g = l .inv .0 .kept .good in
+    let g = l .inv .0 .kept .valid in
     let n = l .inv .1 in
     elim (c .match .came) [
       | inl w ↦ met-served g n (w .1 .given .1) (w .3 .ensures) (w .4 .taken) (w .6 .given .1) (w .9 .ensures) (w .9 .kept .1 .1 .1 .1 .0) (λ i. omega (arith, w .11 .given i)) (w .13) (w .14) (w .15)
