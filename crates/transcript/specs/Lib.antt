@@ -3,4 +3,5 @@ pub mod Lines
 pub mod Replay
 pub mod Chunks
 pub mod Code
+pub mod Entries
 pub mod Calls

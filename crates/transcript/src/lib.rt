@@ -1,12 +1,18 @@
 // Text in chunks to text: the line that is not whole yet is carried, and each whole line is answered.
 mod ending;
+mod entry;
 mod lines;
 mod run;
 
-pub use ending::finish;
+pub use ending::finish_within;
+pub use entry::Ended;
+pub use entry::Fed;
+pub use entry::feed;
+pub use entry::finish;
+pub use entry::is_run;
 pub use lines::CARRY;
 pub use run::LIMIT;
 pub use run::Run;
 pub use run::Turned;
 pub use run::begin;
-pub use run::feed;
+pub use run::feed_within;

@@ -45,7 +45,7 @@ pub struct Turned {
 
 // Line after line, while the chunk has bytes, a line may be read and the longest answer has room. The dispatch on the
 // event stands in the loop for speed: the state is too large to pass through a call for each line.
-pub fn feed(
+pub fn feed_within(
     run: Run,
     carry: &mut [u8],
     chunk: &[u8],

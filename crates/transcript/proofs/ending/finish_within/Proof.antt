@@ -1,7 +1,7 @@
 use Rattle.transcript.proofs.Feeding.{ends-closed}
 use borrow.Author.Needs.{needs}
-use Rattle.transcript.proofs.ending.finish.Statement.{statement}
-use Rattle.transcript.proofs.ending.finish.Tie as tie
+use Rattle.transcript.proofs.ending.finish_within.Statement.{statement}
+use Rattle.transcript.proofs.ending.finish_within.Tie as tie
 
 put-sums-requires : tie.Need-put-sums-requires
 put-sums-requires c κs = search needs
@@ -14,5 +14,5 @@ returns c =
     let s = c .before .before .before .before .before .before .before in
     rw (ends-closed (s .args .run) (s .args .carry .now) (s .pre .1)) (c .before .before .put-sums .ensures)
 
-pub finish-spec : {M : Type 1} → statement M
-finish-spec = tie.close (tie.spec put-sums-requires same-length returns)
+pub finish-within-spec : {M : Type 1} → statement M
+finish-within-spec = tie.close (tie.spec put-sums-requires same-length returns)

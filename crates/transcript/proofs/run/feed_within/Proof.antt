@@ -13,8 +13,8 @@ use mathlib.Core.Logic.{inl, inr}
 use Prim.Native.Nat.{_-_, _<_, _^_}
 use native.Mathlib.Omega.{arith}
 use lib.ListN.{length}
-use Rattle.transcript.proofs.run.feed.Statement.{statement}
-use Rattle.transcript.proofs.run.feed.Tie as tie
+use Rattle.transcript.proofs.run.feed_within.Statement.{statement}
+use Rattle.transcript.proofs.run.feed_within.Tie as tie
 
 abbrev Inv-loop : tie.InvT-loop
 Inv-loop carry₀ chunk from out₀ at buf₀ s₀ n₀ h₀ i₀ to₀ carry out buf s n h i to =
@@ -353,8 +353,8 @@ same-length-12 c = c .before .loop .inv .5
 returns-4 : tie.Need-returns-4 Inv-loop μ-loop
 returns-4 c = going-done (c .before .loop .inv .0) (λ h k. absurd (omega (arith, h, c .loop-test .left))) _ _ refl
 
-pub feed-spec : {M : Type 1} → statement M
-feed-spec =
+pub feed-within-spec : {M : Type 1} → statement M
+feed-within-spec =
     tie.close
     (tie.spec
     Inv-loop
