@@ -3,7 +3,7 @@ use crate::part::put_part;
 use transcript::LIMIT;
 use transcript::Run;
 use transcript::begin;
-use transcript::finish;
+use transcript::finish_within;
 ghost use mathlib.Core.Path.{_≡_};
 ghost use mathlib.Core.Logic.{_⊎_};
 ghost use mathlib.Core.Bool.{Bool, true};
@@ -72,7 +72,7 @@ fn end(run: Run, carry: &[u8], out: &mut [u8]) -> Ending
     requires { ⌜ Kept run (now carry) × ((run .have ≡ 0) ⊎ (run .lines ≡ limit)) × (length (now out) ≡ space) ⌝ }
     ensures { λ _. ⌜ ((tables : Bool) → now (out .exit) ≡ sets (now (out .entry)) 0 (printsLast tables (midOf run (now (carry .entry))))) ⌝ }
 {
-    let to = finish(run, carry, out, 0);
+    let to = finish_within(run, carry, out, 0);
     if io::write_all(libc::STDOUT_FILENO, &out[..to]) {
         return Ending::Summed;
     }

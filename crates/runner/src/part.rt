@@ -2,7 +2,7 @@
 use listing::put_tables;
 use transcript::Run;
 use transcript::Turned;
-use transcript::feed;
+use transcript::feed_within;
 ghost use mathlib.Core.Path.{_≡_};
 ghost use Prim.Native.Nat.{_<_};
 ghost use lib.ListN.{length};
@@ -29,7 +29,7 @@ fn part_end(tables: bool, chunk: &[u8], from: usize) -> usize
     i
 }
 
-// The lines that end in the part are answered, and what it has of the next one is carried. The one call of feed in a
+// The lines that end in the part are answered, and what it has of the next one is carried. The one call of feed_within in a
 // program: the compiler then builds it into the loop that reads.
 pub(crate) fn put_part(
     tables: bool,
@@ -46,7 +46,7 @@ pub(crate) fn put_part(
 {
     let lines = run.lines;
     let end = part_end(tables, chunk, from);
-    let t = feed(run, carry, &chunk[..end], from, out, 0, buf);
+    let t = feed_within(run, carry, &chunk[..end], from, out, 0, buf);
     if !tables {
         return t;
     }

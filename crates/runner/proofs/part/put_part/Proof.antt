@@ -10,11 +10,11 @@ use Rattle.runner.proofs.part.put_part.Tie as tie
 part-end-requires : tie.Need-part-end-requires
 part-end-requires c κs = search needs
 
-slice-aggregate-feed : tie.Need-slice-aggregate-feed
-slice-aggregate-feed c = sym (length-take-le _ _ (c .before .before .part-end .ensures .inside))
+slice-aggregate-feed-within : tie.Need-slice-aggregate-feed-within
+slice-aggregate-feed-within c = sym (length-take-le _ _ (c .before .before .part-end .ensures .inside))
 
-feed-requires : tie.Need-feed-requires
-feed-requires c κs =
+feed-within-requires : tie.Need-feed-within-requires
+feed-within-requires c κs =
     let s = c .before .before .before .before .before .before .before .before .before in
     let e = c .before .before .before .before .part-end in
     ((s .pre .0 .0, s .pre .1 .1), (omega (arith, e .ensures .onward, length-take-le (e .result) (s .args .chunk .now) (e .ensures .inside)), omega arith))
@@ -31,7 +31,7 @@ same-length-3 c = search needs
 returns : tie.Need-returns
 returns c =
     let s = c .before .before .before .before .before .before .before .before .before .before .before .before .before .before .before .before .before in
-    let t = c .before .before .before .before .before .before .before .feed in
+    let t = c .before .before .before .before .before .before .before .feed-within in
     puts-plain (c .before .before .before .before .before .before .before .before .before .before .before .before .part-end .ensures) (t .ensures) (s .pre .0 .1) (s .pre .1 .0) (not-true _ (c .if1 .taken))
 
 same-length-4 : tie.Need-same-length-4
@@ -46,15 +46,15 @@ same-length-6 c = search needs
 returns-2 : tie.Need-returns-2
 returns-2 c =
     let s = c .before .before .before .before .before .before .before .before .before .before .before .before .before .before .before .before .before .before .before .before in
-    let t = c .before .before .before .before .before .before .before .before .before .before .feed in
+    let t = c .before .before .before .before .before .before .before .before .before .before .feed-within in
     puts-none (c .before .before .before .before .before .before .before .before .before .before .before .before .before .before .before .part-end .ensures) (t .ensures) (s .pre .0 .1) (s .pre .1 .0) (not-false _ (c .before .before .before .if1 .left)) (c .if2 .taken)
 
 put-tables-requires : tie.Need-put-tables-requires
 put-tables-requires c κs =
     let s = c .before .before .before .before .before .before .before .before .before .before .before .before .before .before .before .before .before .before .before .before .before .before in
-    let t = c .before .before .before .before .before .before .before .before .before .before .before .before .feed in
+    let t = c .before .before .before .before .before .before .before .before .before .before .before .before .feed-within in
     let k = short (c .before .before .before .before .before .before .before .before .before .before .before .before .before .before .before .before .before .part-end .ensures) (t .ensures) (s .pre .0 .1) (s .pre .1 .0) (not-false _ (c .before .before .before .before .before .if1 .left)) in
-    (t .ensures .moves .kept .good .valid, omega (arith, k, t .kept .1 .1 .1 .1 .0, s .pre .1 .0))
+    (t .ensures .moves .kept .valid, omega (arith, k, t .kept .1 .1 .1 .1 .0, s .pre .1 .0))
 
 same-length-7 : tie.Need-same-length-7
 same-length-7 c = search needs
@@ -68,7 +68,7 @@ same-length-9 c = search needs
 returns-3 : tie.Need-returns-3
 returns-3 c =
     let s = c .before .before .before .before .before .before .before .before .before .before .before .before .before .before .before .before .before .before .before .before .before .before .before .before .before in
-    let t = c .before .before .before .before .before .before .before .before .before .before .before .before .before .before .before .feed in
+    let t = c .before .before .before .before .before .before .before .before .before .before .before .before .before .before .before .feed-within in
     let p = c .before .before .put-tables .ensures in
     puts-tables (c .before .before .before .before .before .before .before .before .before .before .before .before .before .before .before .before .before .before .before .before .part-end .ensures) (t .ensures) (s .pre .0 .1) (s .pre .1 .0) (not-false _ (c .before .before .before .before .before .before .before .before .if1 .left)) _ _ (c .before .before .before .before .before .if2 .left) (p .0) (p .1)
 
@@ -77,8 +77,8 @@ put-part-spec =
     tie.close
     (tie.spec
     part-end-requires
-    slice-aggregate-feed
-    feed-requires
+    slice-aggregate-feed-within
+    feed-within-requires
     same-length
     same-length-2
     same-length-3
