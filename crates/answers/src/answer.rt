@@ -10,8 +10,10 @@ ghost use Rattle.answers.specs.Text.{Room, Put};
 ghost use Rattle.detector.specs.State.{reportsOf};
 ghost use Rattle.answers.specs.Answers.{replyText, answerText, endText, Held};
 
-// Room for the longest answer to one line (32 full reports), and for the last line.
-pub const ANSWER_ROOM: usize = 8429;
+// Room for an item and its tab; for the longest answer to one line, with 32 reports of 32 entries; and for the last line.
+const ITEM_ROOM: usize = 8;
+
+pub const ANSWER_ROOM: usize = 45 + 32 * (6 + 32 * ITEM_ROOM);
 
 pub const END_ROOM: usize = 67;
 

@@ -45,8 +45,8 @@ impl Detector {
     pub const LOCKS: usize = 64;
 
     pub const CONDVARS: usize = 16;
-    // Room for 32 reports of 65 bytes.
-    pub const REPORT_BYTES: usize = 2080;
+    // Room for 32 of the longest reports.
+    pub const REPORT_BYTES: usize = 32 * Waits::REPORT;
 
     pub fn new() -> Detector
         ensures { λ r. ⌜ (tables r ≡ rules.empty) × Valid r ⌝ }

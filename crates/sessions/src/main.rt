@@ -7,6 +7,7 @@ use detector::Event;
 use detector::Reply;
 use waits::Outcome;
 use waits::Tried;
+use waits::Waits;
 
 fn wide(x: u8) -> usize
     ensures { λ r. ⌜ r < 256 ⌝ }
@@ -23,11 +24,11 @@ fn say_number(n: usize) {
 }
 
 // The bytes of the first report.
-fn show_report(buf: &[u8; 2080]) {
+fn show_report(buf: &[u8; Detector::REPORT_BYTES]) {
     let n = wide(buf[0]);
     let mut i: usize = 0;
-    while i < 65 {
-        if i <= 2 * n {
+    while i < Waits::REPORT {
+        if i <= Waits::ENTRY * n {
             say(b" ");
             say_number(wide(buf[i]));
         }
@@ -35,7 +36,7 @@ fn show_report(buf: &[u8; 2080]) {
     }
 }
 
-fn show(reply: Reply, buf: &[u8; 2080]) {
+fn show(reply: Reply, buf: &[u8; Detector::REPORT_BYTES]) {
     match reply {
         Reply::Reports(n) => {
             say(b"ok ");
@@ -54,18 +55,24 @@ fn show(reply: Reply, buf: &[u8; 2080]) {
 }
 
 fn play(d: Detector, e: Event) -> Detector {
-    let mut buf = [0u8; 2080];
+    let mut buf = [0u8; Detector::REPORT_BYTES];
     let a = d.step(e, &mut buf);
     let reply = a.reply;
     show(reply, &buf);
     a.detector
 }
 
-// The same with nothing printed.
-fn quietly(d: Detector, e: Event) -> Detector {
-    let mut buf = [0u8; 2080];
-    let a = d.step(e, &mut buf);
-    a.detector
+// The same event n times, with nothing printed.
+fn quietly(d0: Detector, e: Event, n: usize) -> Detector {
+    let mut d = d0;
+    let mut i = 0;
+    while i < n {
+        let mut buf = [0u8; Detector::REPORT_BYTES];
+        let a = d.step(e, &mut buf);
+        d = a.detector;
+        i += 1;
+    }
+    d
 }
 
 fn p1() {
@@ -227,12 +234,8 @@ fn ours_condvars() {
 
 fn full_queue() {
     say(b"the 33rd cb\n");
-    let mut d = Detector::new();
-    let mut i: usize = 0;
-    while i < 32 {
-        d = quietly(d, Event::CondvarWaitBegin(1, 0, 5));
-        i += 1;
-    }
+    let new = Detector::new();
+    let mut d = quietly(new, Event::CondvarWaitBegin(1, 0, 5), 32);
     d = play(d, Event::CondvarWaitBegin(1, 0, 5));
     d = play(d, Event::CondvarWaitBegin(1, 1, 5));
     sums(d);
@@ -240,12 +243,8 @@ fn full_queue() {
 
 fn full_count() {
     say(b"the 256th read\n");
-    let mut d = Detector::new();
-    let mut i: usize = 0;
-    while i < 255 {
-        d = quietly(d, Event::RwReadAcquired(1, 5));
-        i += 1;
-    }
+    let new = Detector::new();
+    let mut d = quietly(new, Event::RwReadAcquired(1, 5), 255);
     d = play(d, Event::RwReadAcquired(1, 5));
     d = play(d, Event::RwReadAttempt(1, 5, Outcome::Took));
     d = play(d, Event::RwReadTry(1, 5, Tried::Taken));
@@ -257,10 +256,10 @@ fn full_count() {
 fn short_buffer() {
     say(b"a buffer of 2,079 bytes\n");
     let d = Detector::new();
-    let mut small = [7u8; 2079];
+    let mut small = [7u8; Detector::REPORT_BYTES - 1];
     let a = d.step(Event::MutexAcquired(1, 5), &mut small);
     let reply = a.reply;
-    show(reply, &[0u8; 2080]);
+    show(reply, &[0u8; Detector::REPORT_BYTES]);
     say_number(wide(small[0]));
     say(b"\n");
 }

@@ -38,7 +38,7 @@ impl Waits {
     // A report's entry: the thread and the lock that it awaits.
     pub const ENTRY: usize = 2;
     // The longest report: 32 entries and their number.
-    pub const REPORT: usize = 65;
+    pub const REPORT: usize = 1 + 32 * Waits::ENTRY;
 
     pub fn new() -> Waits
         ensures { λ r. ⌜ r ≡ empty ⌝ }
