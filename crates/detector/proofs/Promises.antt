@@ -2,7 +2,7 @@
 use mathlib.Core.Path.{_≡_, refl, sym, ap, _∙_, subst}
 use mathlib.Core.List.{List}
 use mathlib.Core.Bool.{true, false, not, cond, true≢false, false≢true}
-use Prim.Native.Nat.{ℕ, zero, suc, _+_, _*_, _-_, _<_}
+use Prim.Native.Nat.{ℕ, zero, suc, _+_, _-_, _<_}
 use native.Mathlib.Omega.{arith}
 use lib.ListN.{length, getD, replicate, getD-replicate}
 use lib.Seq.{getD-set-same}
@@ -20,7 +20,7 @@ use Rattle.waits.proofs.Telling.{laid-none, laid-length, settle-idle}
 use Rattle.detector.specs.Tables.{Tables, Answer, noPair, noWait, blankWait, withWaits, withCounts, silent, said}
 use Rattle.detector.specs.Mutex.{completeAcquire, acquireSlow, mutexAttempt}
 use Rattle.detector.specs.RwLock.{countUp, countDown, completeRead, acquireRead, readAttempt, completeWrite, acquireWrite, writeAttempt}
-use Rattle.waits.specs.Owners.{countOf}
+use Rattle.waits.specs.Owners.{place, countOf}
 use Rattle.detector.specs.Refusals.{fullCount, fullAttempt}
 use Rattle.detector.specs.State.{tables, blankQueue, Queued, Waiting, Valid, Does}
 use Rattle.waits.specs.Tables as waiting
@@ -126,9 +126,9 @@ read-count x t l Blocked e f = absurd (true≢false e)
 read-count x t l (Hinted o) e f = absurd (true≢false e)
 
 -- the count after it fell
-pub count-down-at : (c : List ℕ) (l t : ℕ) → l * 32 + t < length c → countOf (countDown c l t) l t ≡ countOf c l t - 1
+pub count-down-at : (c : List ℕ) (l t : ℕ) → place l t < length c → countOf (countDown c l t) l t ≡ countOf c l t - 1
 unfolding countDown
-count-down-at c l t h = getD-set-same c (l * 32 + t) (countOf c l t - 1) 0 h
+count-down-at c l t h = getD-set-same c (place l t) (countOf c l t - 1) 0 h
 
 pub tells-length : {r : Told} {b e : List ℕ} {from : ℕ} {a : Said} → Tells r b e from a → length e ≡ length b
 tells-length {b = b} {from = from} {a = a} t = ap length (t .bytes) ∙ laid-length b from (written (a .reports))

@@ -1,14 +1,14 @@
 -- The events of a readers-writer lock: ra, rc, rt, rr, wa, wc, wr, rd. Reads never enter the holds.
 use mathlib.Core.List.{List}
 use mathlib.Core.Bool.{cond}
-use Prim.Native.Nat.{ℕ, _+_, _*_, _-_}
+use Prim.Native.Nat.{ℕ, _+_, _-_}
 use lib.Dec.{eqb}
 use lib.ListN.{set}
 use Rattle.sets.specs.Sets.{upward}
 use Rattle.sets.specs.Below.{each}
 use Rattle.graph.specs.Graph.{removeEdgesTo}
 use Rattle.waits.specs.Tables.{waitersOf, writerOf, withGraph, write, hold, unhold}
-use Rattle.waits.specs.Owners.{countOf}
+use Rattle.waits.specs.Owners.{place, countOf}
 use Rattle.waits.specs.Waiting.{clear, refresh}
 use Rattle.waits.specs.Attempt.{settle, block, readOn, blockWrite}
 use Rattle.waits.specs.declared.tables.Waits.{Waits}
@@ -21,7 +21,7 @@ use Rattle.detector.specs.Mutex.{purge}
 
 -- the counts with n for lock l and thread t
 abbrev pub setCount : List ℕ → ℕ → ℕ → ℕ → List ℕ
-setCount c l t n = set c (l * 32 + t) n
+setCount c l t n = set c (place l t) n
 
 unfoldable pub countUp : List ℕ → ℕ → ℕ → List ℕ
 countUp c l t = setCount c l t (countOf c l t + 1)

@@ -7,6 +7,7 @@ use crate::event::Event;
 use crate::state::Detector;
 use waits::Outcome;
 use waits::Tried;
+use waits::place;
 
 fn hint_of(o: Outcome) -> usize
     ensures { λ r. ⌜ r ≡ hintOf o ⌝ }
@@ -91,7 +92,7 @@ impl Detector {
         ensures { λ r. ⌜ r ≡ fullCount (tables self) t l ⌝ }
     {
         let counts = self.rwlock_readers;
-        let at = l * 32 + t;
+        let at = place(l, t);
         if counts[at] == 255 {
             return 8;
         }

@@ -21,6 +21,7 @@ use waits::Outcome;
 use waits::Told;
 use waits::Tried;
 use waits::Waits;
+use waits::place;
 
 fn written_by(mut w: Waits, l: usize, t: usize) -> Waits
     requires { ⌜ InRange w × (l < 64) × (t ≤ 32) ⌝ }
@@ -122,7 +123,7 @@ fn counted_up(counts: [u8; 2048], t: usize, l: usize) -> [u8; 2048]
     ensures { λ r. ⌜ r ≡ countUp counts l t ⌝ }
 {
     let mut r = counts;
-    let at = l * 32 + t;
+    let at = place(l, t);
     let n = r[at];
     r[at] = n + 1;
     r
@@ -133,7 +134,7 @@ fn counted_down(counts: [u8; 2048], t: usize, l: usize) -> [u8; 2048]
     ensures { λ r. ⌜ r ≡ countDown counts l t ⌝ }
 {
     let mut r = counts;
-    let at = l * 32 + t;
+    let at = place(l, t);
     let n = r[at];
     if 0 < n {
         r[at] = n - 1;
@@ -146,10 +147,10 @@ fn unread(counts: [u8; 2048], l: usize) -> [u8; 2048]
     ensures { λ r. ⌜ r ≡ noReaders counts l ⌝ }
 {
     let mut r = counts;
-    let base = l * 32;
     let mut t = 0;
     while t < 32 {
-        r[base + t] = 0;
+        let at = place(l, t);
+        r[at] = 0;
         t += 1;
     }
     r
@@ -215,7 +216,7 @@ impl Detector {
         let counts = self.readers();
         let fewer = counted_down(counts, t, l);
         let mut w = self.waits;
-        let at = l * 32 + t;
+        let at = place(l, t);
         if fewer[at] == 0 {
             let graph = loosened(w, t, l);
             w.wait_for_graph = graph;

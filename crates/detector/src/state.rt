@@ -30,8 +30,8 @@ pub struct Rest {
     pub thread_wait_cv: [CvWait; 32],
 }
 
-// A count stands at lock * 32 + thread. The counts stand beside the condition variables and `cv_woken` between them and the
-// waits: so the compiler can leave alone what an event does not touch.
+// `waits::place` says where a count stands. The counts stand beside the condition variables and `cv_woken` between them
+// and the waits: so the compiler can leave alone what an event does not touch.
 pub struct Detector {
     pub waits: Waits,
     pub cv_woken: u32,

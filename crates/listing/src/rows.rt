@@ -9,6 +9,7 @@ use detector::CvWait;
 use detector::Pair;
 use detector::Queue;
 use waits::Slot;
+use waits::place;
 ghost use mathlib.Core.Path.{_≡_};
 ghost use mathlib.Core.List.{map};
 ghost use Prim.Native.Nat.{_<_, _≤_};
@@ -46,7 +47,8 @@ fn put_readers_of(
     let mut t = 0;
     let mut to = at;
     while t < 32 {
-        to = put_reader(out, start, to, name, l, t, counts[l * 32 + t]);
+        let k = place(l, t);
+        to = put_reader(out, start, to, name, l, t, counts[k]);
         t = t + 1;
     }
     to

@@ -3,7 +3,7 @@ use mathlib.Core.Path.{_≡_, refl}
 use mathlib.Core.List.{List, [], _∷_}
 use mathlib.Core.Bool.{true, false}
 use mathlib.Core.Option.{some}
-use Prim.Native.Nat.{ℕ, _+_, _*_}
+use Prim.Native.Nat.{ℕ}
 use lib.ListN.{set, replicate}
 use Rattle.sets.specs.Sets.{bit, with, without, upwardFrom}
 use Rattle.sets.specs.Lists.{among}
@@ -11,7 +11,7 @@ use Rattle.sets.specs.Below.{those}
 use Rattle.graph.specs.Search.{row, visit, expand, wayBack, search, findPath}
 use Rattle.graph.specs.Graph.{cutAll, stored, closing, addEdge, addNext, addOwners, clearWaitEdges}
 use Rattle.waits.specs.Tables.{empty, write, hold, intentOf, waitersOf}
-use Rattle.waits.specs.Owners.{readers, owners}
+use Rattle.waits.specs.Owners.{place, readers, owners}
 use Rattle.waits.specs.Waiting.{clear, setIntent, register}
 use Rattle.waits.specs.Filter.{allHold, commonLocks, passes}
 use Rattle.waits.specs.Attempt.{mutexOn}
@@ -24,7 +24,7 @@ noCounts = replicate 2048 0
 
 -- thread t reads lock l once
 reading : List ℕ → ℕ → ℕ → List ℕ
-reading c t l = set c (l * 32 + t) 1
+reading c t l = set c (place l t) 1
 
 writing : ℕ → WaitIntent
 writing l = record { «lock_id» = l; mode = RwWrite }

@@ -1,4 +1,4 @@
--- OWNERS THAT BLOCK. The reader counts c stand at lock and thread.
+-- OWNERS THAT BLOCK. The reader counts c stand by lock and thread.
 use mathlib.Core.List.{List, [], _++_}
 use mathlib.Core.Bool.{Bool, not, cond}
 use Prim.Native.Nat.{ℕ, _+_, _*_}
@@ -15,9 +15,13 @@ use Rattle.waits.specs.declared.intent.WaitMode.the-variants.{Mutex, RwR
 use Rattle.waits.specs.declared.intent.Awaits.{Awaits}
 use Rattle.waits.specs.declared.intent.Awaits.the-variants.{Nothing, For}
 
+-- where the count of lock l and thread t stands
+abbrev pub place : ℕ → ℕ → ℕ
+place l t = l * 32 + t
+
 -- how often thread t reads lock l
 abbrev pub countOf : List ℕ → ℕ → ℕ → ℕ
-countOf c l t = getD c (l * 32 + t) 0
+countOf c l t = getD c (place l t) 0
 
 abbrev pub reads : List ℕ → ℕ → ℕ → Bool
 reads c l t = not (eqb (countOf c l t) 0)

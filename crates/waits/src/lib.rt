@@ -16,4 +16,5 @@ pub use tables::Linked;
 pub use tables::Owners;
 pub use tables::Told;
 pub use tables::Waits;
+pub use wait::place;
 pub use wait::reader_mask;

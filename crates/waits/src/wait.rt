@@ -8,7 +8,7 @@ ghost use Rattle.sets.specs.Sets.{upward};
 ghost use Rattle.graph.specs.Graph.{one, clearWaitEdges};
 ghost use Rattle.graph.specs.Code.{Fit, listOf, added};
 ghost use Rattle.waits.specs.Tables.{InRange, intentOf, lockOf, withGraph};
-ghost use Rattle.waits.specs.Owners.{readers, owners, waitsFor};
+ghost use Rattle.waits.specs.Owners.{place, readers, owners, waitsFor};
 ghost use Rattle.waits.specs.Waiting.{unwaited, clear, setIntent, register, renewAll, refreshed, refreshLocks};
 ghost use Rattle.waits.specs.Validate.{valid, validate};
 ghost use Rattle.waits.specs.Report.{reportBytes};
@@ -27,16 +27,24 @@ use graph::Sought;
 use sets::locks;
 use sets::threads;
 
+// Where the count of lock l and thread t stands.
+pub fn place(l: usize, t: usize) -> usize
+    requires { ⌜ (l < 64) × (t < 32) ⌝ }
+    ensures { λ r. ⌜ (r ≡ place l t) × (r < 2048) ⌝ }
+{
+    l * 32 + t
+}
+
 // The readers of a lock, from its 32 counts.
 pub fn reader_mask(counts: &[u8; 2048], lock: usize) -> u32
     requires { ⌜ lock < 64 ⌝ }
     ensures { λ r. ⌜ upward 32 r ≡ readers (now (counts .entry)) lock ⌝ }
 {
-    let base = lock * 32;
     let mut m = 0u32;
     let mut t = 0;
     while t < 32 {
-        if counts[base + t] != 0 {
+        let at = place(lock, t);
+        if counts[at] != 0 {
             m = threads::with(m, t);
         }
         t += 1;

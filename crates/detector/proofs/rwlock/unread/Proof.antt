@@ -1,6 +1,7 @@
 use Rattle.detector.specs.RwLock.{setCount, noReaders}
 use Rattle.sets.proofs.Below.{each-next, each-none}
 use Rattle.sets.specs.Below.{each}
+use borrow.Author.Needs.{needs}
 use mathlib.Core.Path.{_≡_, sym, ap, _∙_}
 use Prim.Native.Nat.{_-_, _≤_}
 use native.Mathlib.Omega.{arith}
@@ -8,19 +9,16 @@ use Rattle.detector.proofs.rwlock.unread.Statement.{statement}
 use Rattle.detector.proofs.rwlock.unread.Tie as tie
 
 abbrev Inv-loop : tie.InvT-loop
-Inv-loop l r₀ base t₀ r t = (t ≤ 32) × (r ≡ each (λ d k. setCount d l k 0) r₀ t)
+Inv-loop l r₀ t₀ r t = (t ≤ 32) × (r ≡ each (λ d k. setCount d l k 0) r₀ t)
 
 abbrev μ-loop : tie.MeasureT-loop
-μ-loop l r₀ base t₀ r t = 32 - t
-
-mul-base : tie.Need-mul-base Inv-loop μ-loop
-mul-base c = omega arith
+μ-loop l r₀ t₀ r t = 32 - t
 
 loop-holds : tie.Need-loop-holds Inv-loop μ-loop
 loop-holds c = (omega arith, sym (each-none _ _))
 
-add-r : tie.Need-add-r Inv-loop μ-loop
-add-r c = omega arith
+place-requires : tie.Need-place-requires Inv-loop μ-loop
+place-requires c κs = search needs
 
 array-write-r : tie.Need-array-write-r Inv-loop μ-loop
 array-write-r c = omega arith
@@ -33,8 +31,8 @@ loop-less c = omega arith
 
 loop-again : tie.Need-loop-again Inv-loop μ-loop
 loop-again c =
-    let l = c .before .loop in
-    (omega arith, ap (λ d. setCount d (c .before .before .args .l) (l .t) 0) (l .inv .1) ∙ each-next _ _ (l .t))
+    let l = c .before .before .loop in
+    (omega arith, rw (c .place .ensures .0) (ap (λ d. setCount d (c .before .before .before .args .l) (l .t) 0) (l .inv .1) ∙ each-next _ _ (l .t)))
 
 returns : tie.Need-returns Inv-loop μ-loop
 unfolding noReaders
@@ -46,9 +44,8 @@ unread-spec =
     (tie.spec
     Inv-loop
     μ-loop
-    mul-base
     loop-holds
-    add-r
+    place-requires
     array-write-r
     add-t
     loop-less

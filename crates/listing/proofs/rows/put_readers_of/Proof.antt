@@ -20,17 +20,15 @@ loop-holds : tie.Need-loop-holds Inv-loop μ-loop
 unfolding readersOf
 loop-holds c = (search needs, partly-start _ _ refl (c .before .before .pre .0) (c .before .before .pre .2), refl)
 
-mul-put-reader : tie.Need-mul-put-reader Inv-loop μ-loop
-mul-put-reader c = search needs
-
-add-put-reader : tie.Need-add-put-reader Inv-loop μ-loop
-add-put-reader c = search needs
+place-requires : tie.Need-place-requires Inv-loop μ-loop
+place-requires c κs = search needs
 
 element-copy-out-put-reader : tie.Need-element-copy-out-put-reader Inv-loop μ-loop
 element-copy-out-put-reader c = search needs
 
 put-reader-requires : tie.Need-put-reader-requires Inv-loop μ-loop
-put-reader-requires c κs = partly-room (c .before .before .before .loop .inv .1) _ (along-more _ _ _ (c .before .before .loop-test .taken))
+put-reader-requires c κs =
+    rw (c .before .before .place .ensures .0) (partly-room (c .before .before .before .before .loop .inv .1) _ (along-more _ _ _ (c .before .before .before .loop-test .taken)))
 
 add-t : tie.Need-add-t Inv-loop μ-loop
 add-t c = search needs
@@ -39,7 +37,13 @@ loop-less : tie.Need-loop-less Inv-loop μ-loop
 loop-less c = search needs
 
 loop-again : tie.Need-loop-again Inv-loop μ-loop
-loop-again c = (omega arith, partly-more (c .before .before .before .before .before .before .loop .inv .1) (along-more _ _ _ (c .before .before .before .before .before .loop-test .taken)) (c .before .before .put-reader .ensures), put-length (c .before .before .put-reader .ensures .put) ∙ (c .before .before .before .before .before .before .loop .inv .2))
+loop-again c =
+    let l = c .before .before .before .before .before .before .before in
+    let p = c .before .before .put-reader .ensures in (
+      omega arith,
+      partly-more (l .loop .inv .1) (along-more _ _ _ (c .before .before .before .before .before .before .loop-test .taken)) (rw (c .before .before .before .before .before .place .ensures .0) at p),
+      put-length (p .put) ∙ l .loop .inv .2,
+    )
 
 same-length : tie.Need-same-length Inv-loop μ-loop
 same-length c = search needs
@@ -54,8 +58,7 @@ put-readers-of-spec =
     Inv-loop
     μ-loop
     loop-holds
-    mul-put-reader
-    add-put-reader
+    place-requires
     element-copy-out-put-reader
     put-reader-requires
     add-t

@@ -8,22 +8,19 @@ use Rattle.waits.proofs.wait.reader_mask.Statement.{statement}
 use Rattle.waits.proofs.wait.reader_mask.Tie as tie
 
 abbrev Inv-loop : tie.InvT-loop
-Inv-loop counts lock base m₀ t₀ m t = (t ≤ 32) × Masked counts lock t m
+Inv-loop counts lock m₀ t₀ m t = (t ≤ 32) × Masked counts lock t m
 
 abbrev μ-loop : tie.MeasureT-loop
-μ-loop counts lock base m₀ t₀ m t = 32 - t
-
-mul-base : tie.Need-mul-base Inv-loop μ-loop
-mul-base c = search needs
+μ-loop counts lock m₀ t₀ m t = 32 - t
 
 loop-holds : tie.Need-loop-holds Inv-loop μ-loop
 loop-holds c = (search needs, masked-none _ _)
 
-add-if1 : tie.Need-add-if1 Inv-loop μ-loop
-add-if1 c = omega arith
+place-requires : tie.Need-place-requires Inv-loop μ-loop
+place-requires c κs = search needs
 
 element-copy-out-if1 : tie.Need-element-copy-out-if1 Inv-loop μ-loop
-element-copy-out-if1 c = omega arith
+element-copy-out-if1 c = search needs
 
 with-requires : tie.Need-with-requires Inv-loop μ-loop
 with-requires c κs = omega arith
@@ -36,11 +33,12 @@ loop-less c = omega arith
 
 loop-again : tie.Need-loop-again Inv-loop μ-loop
 loop-again c =
-    let i = c .before .before .before .loop .inv in (
+    let i = c .before .before .before .before .loop .inv in
+    let e = c .before .before .place .ensures .0 in (
       omega arith,
       ⊎-elim
-          (λ w. rw (w .2, w .1 .ensures) (masked-more _ _ _ _ (omega arith) (i .1) (w .0 .taken)))
-          (λ w. rw (w .1) (masked-same _ _ _ _ (omega arith) (i .1) (w .0 .left)))
+          (λ w. rw (w .2, w .1 .ensures) (masked-more _ _ _ _ (omega arith) (i .1) (rw e at (w .0 .taken))))
+          (λ w. rw (w .1) (masked-same _ _ _ _ (omega arith) (i .1) (rw e at (w .0 .left))))
           (c .if1 .came),
     )
 
@@ -53,9 +51,8 @@ reader-mask-spec =
     (tie.spec
     Inv-loop
     μ-loop
-    mul-base
     loop-holds
-    add-if1
+    place-requires
     element-copy-out-if1
     with-requires
     add-t

@@ -10,32 +10,35 @@ use borrow.Author.Needs.{needs}
 use mathlib.Core.Path.{_≡_, sym, ap, ap₂, subst, _∙_}
 use mathlib.Core.Logic.{⊎-elim}
 use mathlib.Core.Bool.{cond}
-use Prim.Native.Nat.{_+_, _*_, _-_}
-use native.Mathlib.Omega.{arith}
+use Prim.Native.Nat.{_-_}
 use lib.Dec.{eqb}
 use lib.ListN.{length, getD}
 use borrow.Author.Tests.{eq-eqb, ne-eqb}
 use Rattle.detector.proofs.state.Detector.release_read.Statement.{statement}
 use Rattle.detector.proofs.state.Detector.release_read.Tie as tie
 
--- the count after it fell
+-- the counts after one fell, and that one
+less : (c : tie.Joined1) → c .before .before .before .counted-down .result ≡ countDown (c .before .before .before .before .before .args .self .«rwlock_readers») (c .before .before .before .before .before .args .l) (c .before .before .before .before .before .args .t)
+less c =
+    let a = c .before .before .before .before .before .args in
+    c .before .before .before .counted-down .ensures ∙ ap (λ k. countDown k (a .l) (a .t)) (c .before .before .before .before .readers .ensures)
+
 fallen : (c : tie.Joined1)
-    → getD (c .before .before .counted-down .result) (c .before .before .before .before .args .l * 32 + c .before .before .before .before .args .t) 0
-    ≡ countOf (c .before .before .before .before .args .self .«rwlock_readers») (c .before .before .before .before .args .l) (c .before .before .before .before .args .t) - 1
+    → getD (c .before .before .before .counted-down .result) (c .before .place .result) 0
+    ≡ countOf (c .before .before .before .before .before .args .self .«rwlock_readers») (c .before .before .before .before .before .args .l) (c .before .before .before .before .before .args .t) - 1
 fallen c =
-    let a = c .before .before .before .before .args in
+    let a = c .before .before .before .before .before .args in
+    let p = c .before .place .ensures in
     let n : length (a .self .«rwlock_readers») ≡ 2048 = search needs in
-    let e = c .before .before .counted-down .ensures ∙ ap (λ k. countDown k (a .l) (a .t)) (c .before .before .before .readers .ensures) in
-    ap (λ k. countOf k (a .l) (a .t)) e ∙ count-down-at (a .self .«rwlock_readers») (a .l) (a .t) (omega (arith, c .before .before .before .before .pre .1, c .before .before .before .before .pre .2))
+    rw (less c, p .0) (count-down-at (a .self .«rwlock_readers») (a .l) (a .t) (rw (← p .0, n) (p .1)))
 
 -- where the arms meet: the edges go where the count is 0 now
 met : (c : tie.Joined1)
     → c .if1 .w
-    ≡ cond (eqb (countOf (c .before .before .before .before .args .self .«rwlock_readers») (c .before .before .before .before .args .l) (c .before .before .before .before .args .t) - 1) 0)
-    (loosen (c .before .before .before .before .args .self .waits) (c .before .before .before .before .args .t) (c .before .before .before .before .args .l))
-    (c .before .before .before .before .args .self .waits)
+    ≡ cond (eqb (countOf (c .before .before .before .before .before .args .self .«rwlock_readers») (c .before .before .before .before .before .args .l) (c .before .before .before .before .before .args .t) - 1) 0)
+    (loosen (c .before .before .before .before .before .args .self .waits) (c .before .before .before .before .before .args .t) (c .before .before .before .before .before .args .l))
+    (c .before .before .before .before .before .args .self .waits)
 met c =
-    let a = c .before .before .before .before .args in
     ⊎-elim
     (λ z. z .2 ∙ z .1 .ensures ∙ rw (eq-eqb _ _ (sym (fallen c) ∙ z .0 .taken)))
     (λ z. rw (z .1, ne-eqb _ _ (λ e. z .0 .left (fallen c ∙ e))))
@@ -43,7 +46,7 @@ met c =
 
 ranged : (c : tie.Joined1) → InRange (c .if1 .w)
 ranged c =
-    let s = c .before .before .before .before .pre .0 .waits in
+    let s = c .before .before .before .before .before .pre .0 .waits in
     ⊎-elim (λ z. subst (λ (w : Waits). InRange w) (sym (z .2 ∙ z .1 .ensures)) (range-loosen _ _ _ s)) (λ z. rw (z .1) s) (c .if1 .came)
 
 readers-requires : tie.Need-readers-requires
@@ -52,11 +55,8 @@ readers-requires c κs = search needs
 counted-down-requires : tie.Need-counted-down-requires
 counted-down-requires c κs = search needs
 
-mul-at : tie.Need-mul-at
-mul-at c = search needs
-
-add-at : tie.Need-add-at
-add-at c = search needs
+place-requires : tie.Need-place-requires
+place-requires c κs = search needs
 
 array-read-if1 : tie.Need-array-read-if1
 array-read-if1 c = search needs
@@ -71,12 +71,10 @@ returns : tie.Need-returns
 unfolding releaseRead
 returns c =
     let j = c .before in
-    let s = j .before .before .before .before in
-    let a = s .args in
-    let n = j .before .before .counted-down .ensures ∙ ap (λ k. countDown k (a .l) (a .t)) (j .before .before .before .readers .ensures) in
+    let s = j .before .before .before .before .before in
     λ b.
-    redo (ap₂ (λ w k. silent (withCounts (tables (a .self)) w k)) (met j) n)
-    (does-counts (a .self) _ _ _ (c .with-counts .ensures) (s .pre .0) (ranged j) b)
+    redo (ap₂ (λ w k. silent (withCounts (tables (s .args .self)) w k)) (met j) (less j))
+    (does-counts (s .args .self) _ _ _ (c .with-counts .ensures) (s .pre .0) (ranged j) b)
 
 pub release-read-spec : {M : Type 1} → statement M
 release-read-spec =
@@ -84,8 +82,7 @@ release-read-spec =
     (tie.spec
     readers-requires
     counted-down-requires
-    mul-at
-    add-at
+    place-requires
     array-read-if1
     loosened-requires
     with-counts-requires
