@@ -7,7 +7,10 @@ use native.Mathlib.Numerals.{add-one}
 use native.Mathlib.Nat.{add-zero, add-suc, suc-add}
 use lib.ListN.{length, take, drop, getD, set, length-append}
 use lib.Seq.{sets, sets-eq, length-sets, set-comm, take-suc, length-take-le}
-use Rattle.answers.specs.Text.{Room, Put}
+use Rattle.answers.specs.Text.{Room, Put, PutsCoincide}
+
+pub puts-coincide : PutsCoincide
+puts-coincide d at s e f r q p u = (p .bytes ∙ sym (u .bytes), p .place ∙ sym (u .place))
 
 pub sets-append : (l : List ℕ) (i : ℕ) (s t : List ℕ) → sets (sets l i s) (i + length s) t ≡ sets l i (s ++ t)
 sets-append l i [] t = ap (λ (k : ℕ). sets l k t) (add-zero i)

@@ -51,3 +51,7 @@ pub record Room (d : List ℕ) (at : ℕ) (s : List ℕ) : Type 0 where
 pub record Put (d : List ℕ) (at : ℕ) (s : List ℕ) (d′ : List ℕ) (r : ℕ) : Type 0 where
   pub bytes : d′ ≡ sets d at s
   pub place : r ≡ at + length s
+
+-- two results that keep it are one (`puts-coincide`)
+abbrev pub PutsCoincide : Type 0
+PutsCoincide = (d : List ℕ) (at : ℕ) (s e f : List ℕ) (r q : ℕ) → Put d at s e r → Put d at s f q → (e ≡ f) × (r ≡ q)

@@ -1,5 +1,5 @@
 -- What the calls put out, one after the other, is the text of what they took.
-use mathlib.Core.Path.{_≡_, refl, sym, ap, ap₂, _∙_}
+use mathlib.Core.Path.{_≡_, refl, sym, ap, ap₂, _∙_, subst}
 use mathlib.Core.Logic.{_⊎_, inl, inr, ⊎-elim}
 use mathlib.Core.Bool.{Bool, true, false, cond}
 use mathlib.Core.List.{List, [], _∷_, _++_, append-assoc}
@@ -10,13 +10,13 @@ use lib.ListN.{length, take, drop}
 use borrow.Author.Tests.{ltb-true, ltb-false}
 use lib.Seq.{length-take-le, take-append-seam, drop-append-seam}
 use Rattle.answers.specs.Text.{Room, Put}
-use Rattle.answers.proofs.Puts.{put-whole}
+use Rattle.answers.proofs.Puts.{puts-coincide, put-whole}
 use Rattle.transcript.specs.Chunks.{Mid, start, mid, fed, says, ends, fedAll, saysAll, joined}
 use Rattle.transcript.specs.Lines.{linesOf}
 use Rattle.transcript.specs.Replay as replay
 use Rattle.transcript.specs.Replay.{limit, begun, after, lineText, lastText, textOf, replayText}
 use Rattle.transcript.specs.Code.{Begins, Feeds, midOf, runOf, between}
-use Rattle.transcript.specs.Calls.{out, Calls, none, next, Printed, AllPrinted, answersOf, lastOf, TextsAnswered}
+use Rattle.transcript.specs.Calls.{out, Calls, none, next, FeedsCoincide, Printed, AllPrinted, answersOf, lastOf, TextsAnswered}
 use Rattle.transcript.specs.declared.run.Run.{Run}
 use Rattle.transcript.proofs.Text.{text-theorem}
 
@@ -40,6 +40,12 @@ module _ {e : Run} {k : List ℕ} where
         ap₂ (λ (x y : List ℕ). x ++ y) (out-put d _ d′ at (t .at) (f .place) (f .text)) (h .0 ∙ ap (λ (m : Mid). saysAll m ts) (f .moves .after)),
         h .1 ∙ ap (λ (m : Mid). fedAll m ts) (f .moves .after),
       )
+
+pub feeds-coincide : FeedsCoincide
+feeds-coincide r c chunk from d at t u k l e f p q n =
+    let part : between from (t .next) chunk ≡ between from (u .next) chunk = ap (λ (i : ℕ). between from i chunk) n in
+    let same = puts-coincide d at _ e f (t .at) (u .at) (p .text) (subst (λ (x : List ℕ). Put d at (says (midOf r c) x) f (u .at)) (sym part) (q .text)) in
+    (same .0, same .1, p .moves .after ∙ ap (fed (midOf r c)) part ∙ sym (q .moves .after))
 
 begun-mid : {r : Run} (c : List ℕ) → Begins r → midOf r c ≡ start
 begun-mid {r} c b = ap₂ (λ (n : ℕ) (u : replay.Run). mid (take n c) u) (b .have) (b .run)

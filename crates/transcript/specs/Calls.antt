@@ -28,6 +28,14 @@ pub data Calls : Run → List ℕ → List (List ℕ) → List ℕ → Run → L
       → Feeds r c chunk from d at t c′ d′ → Calls (t .run) c′ ts s e k
       → Calls r c (between from (t .next) chunk ∷ ts) (out d′ at (t .at) ++ s) e k
 
+-- two results of one call that stop at the same place are one (`feeds-coincide`): every byte put out, the place behind, and what
+-- the run means. Where it stops makes no difference to the whole text: `AllPrinted`
+abbrev pub FeedsCoincide : Type 0
+FeedsCoincide =
+    (r : Run) (c chunk : List ℕ) (from : ℕ) (d : List ℕ) (at : ℕ) (t u : Turned) (k l e f : List ℕ)
+    → Feeds r c chunk from d at t k e → Feeds r c chunk from d at u l f → t .next ≡ u .next
+    → (e ≡ f) × (t .at ≡ u .at) × (midOf (t .run) k ≡ midOf (u .run) l)
+
 -- A TEXT, WHOLE: `begin`, calls of `feed`, `finish`
 pub record Printed (ts : List (List ℕ)) (all : List ℕ) : Type 0 where
   pub first : Run
