@@ -14,7 +14,8 @@ use Rattle.demands.specs.Typed.{Typed}
 
 -- AN ANSWER AND AN END (`step-answered`): from every state that the types hold, valid or not, and for every event and buffer there
 -- is a result that keeps the promise of a step, and its state is again one that the types hold. Over every record there
--- would be none: one with more entries than its type holds passes the test for ranges and cannot be served.
+-- would be none: one with more entries than its type holds passes the test for ranges and cannot be served. That the types
+-- hold every state of the code to `Typed` is the contract of `typed` (src/types.rt).
 abbrev pub StepAnswered : Type 0
 StepAnswered = (d : Detector) (k : Call) → Typed d → (r : Answered) × (e : List ℕ) × Steps d (k .event) r (k .lent) e × Typed (r .detector)
 

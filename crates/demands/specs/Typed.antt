@@ -1,4 +1,5 @@
 -- WHAT THE CODE'S TYPES HOLD of a state, valid or not: how long its tables are, and how large a number of each can be.
+-- Of every state of the code it is proved: `typed` (src/types.rt).
 use mathlib.Core.Path.{_≡_}
 use mathlib.Core.List.{List}
 use Prim.Native.Nat.{ℕ, _<_, _^_}

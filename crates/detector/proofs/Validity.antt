@@ -26,7 +26,7 @@ both true b e = (refl, e)
 both false b e = absurd (false≢true e)
 
 -- what holds of the n entries of a table, and of what a read outside it gives, holds of every read
-everywhere : {A : Type 0} (P : A → Type 0) (l : List A) (d : A) (n : ℕ) → length l ≡ n → P d → ((k : ℕ) → k < n → P (getD l k d)) → (k : ℕ) → P (getD l k d)
+pub everywhere : {A : Type 0} (P : A → Type 0) (l : List A) (d : A) (n : ℕ) → length l ≡ n → P d → ((k : ℕ) → k < n → P (getD l k d)) → (k : ℕ) → P (getD l k d)
 everywhere P l d n e p h k = go (decLt k n)
   where
     go : Dec (k < n) → P (getD l k d)
