@@ -8,7 +8,7 @@ use native.Mathlib.Omega.{arith}
 use native.Mathlib.Numerals.{add-one}
 use borrow.Author.Tests.{ne-eqb, lt-ltb, le-ltb}
 use lib.Dec.{eqb, ltb}
-use lib.ListN.{length, take, drop, getD, take-append-drop}
+use lib.ListN.{length, take, drop, getD}
 use lib.Seq.{slice-empty, take-take, take-suc, drop-append-le, length-take-le}
 use Rattle.answers.specs.Text.{Put}
 use Rattle.answers.specs.Answers.{answerRoom}
@@ -23,6 +23,7 @@ use Rattle.transcript.specs.Chunks.{Mid, mid, step, said, fed, says, ends, last
 use Rattle.transcript.specs.Code.{runOf, midOf, between, Moves, Feeds}
 use Rattle.transcript.specs.declared.run.Run as code
 use Rattle.transcript.specs.declared.run.Turned.{Turned}
+use Rattle.transcript.proofs.Chunk.{between-on}
 use Rattle.transcript.proofs.Feeding.{feeds-move, ends-closed}
 use Rattle.runner.specs.Shown.{lineShown, shownOf, shown, shows, closes, OpenShown}
 use Rattle.runner.specs.Code.{space, prints, printsLast, lineEnds, Part, Puts}
@@ -206,7 +207,7 @@ module _ {tables : Bool} {r : code.Run} {carry chunk : List ℕ} {from e : ℕ} 
   cut : between from (t .next) (take e chunk) ≡ part
   cut = ap (drop from) (take-take (t .next) e chunk ahead)
 
-  moves : Moves r carry chunk from t carry′
+  moves : Moves r carry chunk from (t .next) (t .run) carry′
   moves = record { kept = s .moves .kept; onward = s .moves .onward; inside = omega (arith, ahead, o .inside); after = s .moves .after ∙ ap (fed (midOf r carry)) cut }
 
   put : Put out 0 (says (midOf r carry) part) out′ (t .at)
@@ -216,13 +217,8 @@ module _ {tables : Bool} {r : code.Run} {carry chunk : List ℕ} {from e : ℕ} 
   puts-plain plain = record { moves = moves; onward = onward; text = subst (λ (z : Bool). Put out 0 (prints z (midOf r carry) part) out′ (t .at)) (sym plain) put; place = omega (arith, s .place, room) }
 
   module _ (asked : tables ≡ true) where
-    lead : between from e chunk ≡ part ++ drop (t .next) (take e chunk)
-    lead =
-        ap (drop from) (sym (take-append-drop (t .next) (take e chunk)) ∙ ap (λ (x : List ℕ). x ++ drop (t .next) (take e chunk)) (take-take (t .next) e chunk ahead))
-        ∙ drop-append-le from (take (t .next) chunk) (drop (t .next) (take e chunk)) (omega (arith, onward, length-take-le (t .next) chunk (omega (arith, ahead, o .inside))))
-
     few : lineEnds part ≤ 1
-    few = omega (arith, o .one asked, line-ends-first part (drop (t .next) (take e chunk)), ap lineEnds lead)
+    few = omega (arith, o .one asked, line-ends-first part (between (t .next) e chunk), ap lineEnds (between-on from (t .next) e chunk (moves .onward) ahead (o .inside)))
 
     count : t .run .lines ≡ fed (midOf r carry) part .run .lines
     count = ap (λ (m : Mid). m .run .lines) (moves .after)
@@ -248,7 +244,7 @@ module _ {tables : Bool} {r : code.Run} {carry chunk : List ℕ} {from e : ℕ} 
         (ap (λ (x : Tables). says (midOf r carry) part ++ tablesText x) state ∙ sym (single (midOf r carry) part one))
         (then put p) in
         record {
-          moves = record { kept = moves .kept; onward = moves .onward; inside = moves .inside; after = moves .after };
+          moves = moves;
           onward = onward;
           text = subst (λ (z : Bool). Put out 0 (prints z (midOf r carry) part) out″ to) (sym asked) text;
           place = omega (arith, short, w);

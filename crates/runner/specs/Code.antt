@@ -40,7 +40,7 @@ pub record Part (tables : Bool) (chunk : List ℕ) (from to : ℕ) : Type 0 wher
 
 -- at least a byte of the chunk, and what is printed up to t .next
 pub record Puts (tables : Bool) (r : Run) (carry chunk : List ℕ) (from : ℕ) (out : List ℕ) (t : Turned) (carry′ out′ : List ℕ) : Type 0 where
-  pub moves : Moves r carry chunk from t carry′
+  pub moves : Moves r carry chunk from (t .next) (t .run) carry′
   pub onward : from < t .next
   pub text : Put out 0 (prints tables (midOf r carry) (between from (t .next) chunk)) out′ (t .at)
   pub place : t .at ≤ space

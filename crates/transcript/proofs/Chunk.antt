@@ -1,4 +1,4 @@
--- A chunk, taken from its start to a place and on from there; behind the last line that is read nothing changes.
+-- A chunk, taken to a place and on from there; behind the last line that is read nothing changes.
 use mathlib.Core.Path.{_≡_, refl, sym, ap, _∙_}
 use mathlib.Core.Bool.{false}
 use mathlib.Core.List.{List, [], _∷_, _++_}
@@ -7,12 +7,11 @@ use native.Mathlib.Omega.{arith}
 use borrow.Author.Tests.{le-ltb}
 use lib.Dec.{ltb}
 use lib.ListN.{length, take, drop, take-append-drop}
-use lib.Seq.{take-take, take-all}
+use lib.Seq.{slice-empty, take-take, take-all, drop-append-le, length-take-le}
 use Rattle.transcript.specs.Replay.{limit}
 use Rattle.transcript.specs.Chunks.{Mid, step, fed}
 use Rattle.transcript.specs.Code.{Kept, midOf, between, Moves}
 use Rattle.transcript.specs.declared.run.Run.{Run}
-use Rattle.transcript.specs.declared.run.Turned.{Turned}
 use Rattle.transcript.proofs.Text.{fed-append}
 
 step-full : (m : Mid) (b : ℕ) → ltb (m .run .lines) limit ≡ false → step m b ≡ m
@@ -24,32 +23,32 @@ unfolding fed
 fed-full m [] e = refl
 fed-full m (b ∷ t) e = ap (λ (n : Mid). fed n t) (step-full m b e) ∙ fed-full m t e
 
--- the run r has taken the chunk up to the place i
-pub record Taken (m : Mid) (chunk carry : List ℕ) (r : Run) (i : ℕ) : Type 0 where
-  pub kept : Kept r carry
-  pub inside : i ≤ length chunk
-  pub after : midOf r carry ≡ fed m (take i chunk)
+pub between-on : (a b c : ℕ) (l : List ℕ) → a ≤ b → b ≤ c → c ≤ length l → between a c l ≡ between a b l ++ between b c l
+between-on a b c l h g k =
+    ap (drop a) (sym (take-append-drop b (take c l)) ∙ ap (λ (x : List ℕ). x ++ drop b (take c l)) (take-take b c l g))
+    ∙ drop-append-le a (take b l) (drop b (take c l)) (omega (arith, length-take-le b l (omega arith)))
 
-pub taken-none : (chunk carry : List ℕ) (r : Run) → Kept r carry → Taken (midOf r carry) chunk carry r 0
+pub moves-none : (r : Run) (carry chunk : List ℕ) (from : ℕ) → Kept r carry → from ≤ length chunk → Moves r carry chunk from from r carry
 unfolding fed
-taken-none chunk carry r k = record { kept = k; inside = omega arith; after = refl }
+moves-none r carry chunk from k h = record { kept = k; onward = omega arith; inside = h; after = sym (ap (fed (midOf r carry)) (slice-empty from chunk)) }
 
-module _ {m : Mid} {chunk carry : List ℕ} {r : Run} {i : ℕ} (g : Taken m chunk carry r i) where
-  pub taken-more : {carry′ : List ℕ} {t : Turned} → Moves r carry chunk i t carry′ → Taken m chunk carry′ (t .run) (t .next)
-  taken-more {carry′} {t} s =
-      let j = t .next in
-      record {
-        kept = s .kept;
-        inside = s .inside;
-        after = s .after ∙ ap (λ (n : Mid). fed n (between i j chunk)) (g .after) ∙ sym (fed-append m (take i chunk) (between i j chunk))
-            ∙ ap (fed m) (ap (λ (x : List ℕ). x ++ drop i (take j chunk)) (sym (take-take i j chunk (s .onward))) ∙ take-append-drop i (take j chunk));
-      }
+pub moves-on : {r s u : Run} {carry carry′ carry″ chunk : List ℕ} {from i j : ℕ} → Moves r carry chunk from i s carry′ → Moves s carry′ chunk i j u carry″ → Moves r carry chunk from j u carry″
+moves-on {r} {s} {u} {carry} {carry′} {carry″} {chunk} {from} {i} {j} m n =
+    record {
+      kept = n .kept;
+      onward = omega (arith, m .onward, n .onward);
+      inside = n .inside;
+      after = n .after ∙ ap (λ (x : Mid). fed x (between i j chunk)) (m .after) ∙ sym (fed-append (midOf r carry) (between from i chunk) (between i j chunk))
+          ∙ sym (ap (fed (midOf r carry)) (between-on from i j chunk (m .onward) (n .onward) (n .inside)));
+    }
 
-  pub taken-all : length chunk ≤ i → midOf r carry ≡ fed m chunk
-  taken-all h = g .after ∙ ap (fed m) (take-all i chunk h)
+-- the whole chunk is taken, or as far as lines are read
+module _ {r s : Run} {carry carry′ chunk : List ℕ} {i : ℕ} (m : Moves r carry chunk 0 i s carry′) where
+  pub moves-all : length chunk ≤ i → midOf s carry′ ≡ fed (midOf r carry) chunk
+  moves-all h = m .after ∙ ap (fed (midOf r carry)) (take-all i chunk h)
 
-  pub taken-full : r .lines ≡ limit → midOf r carry ≡ fed m chunk
-  taken-full e =
-      sym (fed-full (midOf r carry) (drop i chunk) (le-ltb (r .lines) limit (omega arith))) ∙ ap (λ (n : Mid). fed n (drop i chunk)) (g .after)
-      ∙ sym (fed-append m (take i chunk) (drop i chunk))
-      ∙ ap (fed m) (take-append-drop i chunk)
+  pub moves-full : s .lines ≡ limit → midOf s carry′ ≡ fed (midOf r carry) chunk
+  moves-full e =
+      sym (fed-full (midOf s carry′) (drop i chunk) (le-ltb (s .lines) limit (omega arith))) ∙ ap (λ (n : Mid). fed n (drop i chunk)) (m .after)
+      ∙ sym (fed-append (midOf r carry) (take i chunk) (drop i chunk))
+      ∙ ap (fed (midOf r carry)) (take-append-drop i chunk)

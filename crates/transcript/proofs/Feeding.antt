@@ -3,12 +3,12 @@ use mathlib.Core.Path.{_≡_, refl, sym, ap, ap₂, _∙_, subst}
 use mathlib.Core.Bool.{true}
 use mathlib.Core.Logic.{_⊎_, inl, inr}
 use mathlib.Core.List.{List, [], _∷_, _++_, append-nil}
-use Prim.Native.Nat.{ℕ, _+_, _*_, _-_, _<_, _≤_}
+use Prim.Native.Nat.{ℕ, _+_, _<_, _≤_}
 use native.Mathlib.Omega.{arith}
 use borrow.Author.Tests.{lt-ltb, le-ltb}
 use lib.Dec.{ltb}
-use lib.ListN.{length, take, drop, take-append-drop}
-use lib.Seq.{slice-empty, take-take, drop-append-le, length-take-le}
+use lib.ListN.{length, take}
+use lib.Seq.{slice-empty}
 use Rattle.answers.specs.Text.{Put}
 use Rattle.answers.specs.Answers.{answerRoom, endText}
 use Rattle.answers.proofs.Puts.{then}
@@ -23,73 +23,38 @@ use Rattle.transcript.specs.Chunks.{carrySize, Mid, mid, step, said, fed
 use Rattle.transcript.specs.Code.{runOf, midOf, Begins, Kept, between, Feeds}
 use Rattle.transcript.specs.declared.run.Run as code
 use Rattle.transcript.specs.declared.run.Turned.{Turned}
-use Rattle.transcript.proofs.Text.{fed-append, says-append, text-full}
-use Rattle.transcript.proofs.Turning.{Turns}
+use Rattle.transcript.proofs.Text.{says-append, text-full}
+use Rattle.transcript.proofs.Chunk.{between-on, moves-none, moves-on}
+use Rattle.transcript.proofs.Turning.{Goes}
 
--- ---- between two turns
+-- ---- turns, one after the other
 
-between-on : (a b c : ℕ) (l : List ℕ) → a ≤ b → b ≤ c → c ≤ length l → between a c l ≡ between a b l ++ between b c l
-between-on a b c l h g k =
-    ap (drop a) (sym (take-append-drop b (take c l)) ∙ ap (λ (x : List ℕ). x ++ drop b (take c l)) (take-take b c l g))
-    ∙ drop-append-le a (take b l) (drop b (take c l)) (omega (arith, length-take-le b l (omega arith)))
-
-pub record Going (m : Mid) (chunk : List ℕ) (from : ℕ) (out : List ℕ) (at : ℕ) (carry out′ : List ℕ) (r : code.Run) (i to : ℕ) : Type 0 where
-  pub kept : Kept r carry
-  pub onward : from ≤ i
-  pub inside : i ≤ length chunk
-  pub after : midOf r carry ≡ fed m (between from i chunk)
-  pub text : Put out at (says m (between from i chunk)) out′ to
-  pub place : to ≤ length out
-  pub up : m .run .lines ≤ r .lines
-  pub short : to ≤ at + answerRoom * (r .lines - m .run .lines)
-
-pub going-none : (chunk : List ℕ) (from : ℕ) (out : List ℕ) (at : ℕ) (carry : List ℕ) (r : code.Run) → Kept r carry → from ≤ length chunk → at ≤ length out
-    → Going (midOf r carry) chunk from out at carry out r from at
-unfolding fed says
-going-none chunk from out at carry r k h w =
+pub goes-none : (r : code.Run) (carry chunk : List ℕ) (from : ℕ) (out : List ℕ) (at : ℕ) → Kept r carry → from ≤ length chunk → Goes r carry chunk from out at carry out r from at
+unfolding says
+goes-none r carry chunk from out at k h =
     record {
-      kept = k;
-      onward = omega arith;
-      inside = h;
-      after = sym (ap (fed (midOf r carry)) (slice-empty from chunk));
+      moves = moves-none r carry chunk from k h;
       text = subst (λ (s : List ℕ). Put out at s out at) (sym (ap (says (midOf r carry)) (slice-empty from chunk))) (record { bytes = refl; place = omega arith });
-      place = w;
       up = omega arith;
       short = omega arith;
     }
 
-module _ {m : Mid} {chunk : List ℕ} {from : ℕ} {out : List ℕ} {at : ℕ} {carry out′ : List ℕ} {r : code.Run} {i to : ℕ} (g : Going m chunk from out at carry out′ r i to) where
-  pub going-turn : (t : Turned) (carry″ out″ : List ℕ) → to + answerRoom ≤ length out → Turns r carry chunk i out′ to t carry″ out″ → Going m chunk from out at carry″ out″ (t .run) (t .next) (t .at)
-  going-turn t carry″ out″ w s =
-      let cut : between from (t .next) chunk ≡ between from i chunk ++ between i (t .next) chunk = between-on from i (t .next) chunk (g .onward) (s .moves .onward) (s .moves .inside) in
+module _ {r : code.Run} {carry chunk : List ℕ} {from : ℕ} {out : List ℕ} {at : ℕ} {carry′ out′ : List ℕ} {s : code.Run} {i to : ℕ} (g : Goes r carry chunk from out at carry′ out′ s i to) where
+  pub goes-on : {carry″ out″ : List ℕ} {u : code.Run} {j to′ : ℕ} → Goes s carry′ chunk i out′ to carry″ out″ u j to′ → Goes r carry chunk from out at carry″ out″ u j to′
+  goes-on {carry″} {out″} {u} {j} {to′} h =
+      let m : Mid = midOf r carry in
       record {
-        kept = s .moves .kept;
-        onward = omega (arith, g .onward, s .moves .onward);
-        inside = s .moves .inside;
-        after = s .moves .after ∙ ap (λ (n : Mid). fed n (between i (t .next) chunk)) (g .after) ∙ sym (fed-append m (between from i chunk) (between i (t .next) chunk)) ∙ sym (ap (fed m) cut);
-        text = subst (λ (z : List ℕ). Put out at z out″ (t .at))
-            (ap (λ (n : Mid). says m (between from i chunk) ++ says n (between i (t .next) chunk)) (g .after) ∙ sym (says-append m (between from i chunk) (between i (t .next) chunk)) ∙ sym (ap (says m) cut))
-            (then (g .text) (s .text));
-        place = omega (arith, s .place);
-        up = omega (arith, s .up, g .up);
-        short = omega (arith, s .short, s .up, g .up, g .short);
+        moves = moves-on (g .moves) (h .moves);
+        text = subst (λ (z : List ℕ). Put out at z out″ to′)
+            (ap (λ (n : Mid). says m (between from i chunk) ++ says n (between i j chunk)) (g .moves .after) ∙ sym (says-append m (between from i chunk) (between i j chunk))
+            ∙ sym (ap (says m) (between-on from i j chunk (g .moves .onward) (h .moves .onward) (h .moves .inside))))
+            (then (g .text) (h .text));
+        up = omega (arith, g .up, h .up);
+        short = omega (arith, g .up, h .up, g .short, h .short);
       }
 
-  pub going-done : (i < length chunk → r .lines < limit → length out < to + answerRoom) → (r₀ : code.Run) (carry₀ : List ℕ) → m ≡ midOf r₀ carry₀
-      → Feeds r₀ carry₀ chunk from out at (record { run = r; next = i; at = to }) carry out′
-  going-done h r₀ carry₀ e =
-      record {
-        moves = record {
-          kept = g .kept;
-          onward = g .onward;
-          inside = g .inside;
-          after = g .after ∙ ap (λ (n : Mid). fed n (between from i chunk)) e;
-        };
-        text = subst (λ (n : Mid). Put out at (says n (between from i chunk)) out′ to) e (g .text);
-        place = g .place;
-        short = omega (arith, g .short, ap (λ (n : Mid). n .run .lines) e);
-        stops = h;
-      }
+  pub goes-done : to ≤ length out → (i < length chunk → s .lines < limit → length out < to + answerRoom) → Feeds r carry chunk from out at (record { run = s; next = i; at = to }) carry′ out′
+  goes-done w h = record { moves = g .moves; text = g .text; place = w; short = g .short; stops = h }
 
 -- a call moves on
 pub feeds-move : {r : code.Run} {carry chunk : List ℕ} {from : ℕ} {out : List ℕ} {at : ℕ} {t : Turned} {carry′ out′ : List ℕ} → Feeds r carry chunk from out at t carry′ out′

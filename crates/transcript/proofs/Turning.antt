@@ -26,7 +26,6 @@ use Rattle.transcript.specs.Replay.{Run, Result, limit, lineResult, resu
 use Rattle.transcript.specs.Chunks.{carrySize, Mid, mid, step, said, fed, says}
 use Rattle.transcript.specs.Code.{Results, runOf, midOf, Kept, between, Moves}
 use Rattle.transcript.specs.declared.run.Run as code
-use Rattle.transcript.specs.declared.run.Turned.{Turned}
 use Rattle.script.specs.declared.line.Line.{Line}
 use Rattle.transcript.proofs.Text.{fed-append, says-append, cut-result, cut-more}
 
@@ -174,20 +173,19 @@ pub text-line : (r : Run) (l : List ℕ) (n : ℕ) → n ≡ r .lines + 1 → re
 unfolding lineText resultOf
 text-line r l n e = ap (λ (m : ℕ). resultText m (lineResult (r .tables) (lineOf l))) e
 
--- ---- a turn of the loop: one line, or what the chunk has of it
+-- ---- the loop's way over the chunk, and a turn of it: one line, or what the chunk has of it
 
-pub record Turns (r : code.Run) (carry chunk : List ℕ) (from : ℕ) (out : List ℕ) (at : ℕ) (t : Turned) (carry′ out′ : List ℕ) : Type 0 where
-  pub moves : Moves r carry chunk from t carry′
-  pub text : Put out at (says (midOf r carry) (between from (t .next) chunk)) out′ (t .at)
-  pub up : r .lines ≤ t .run .lines
-  pub place : t .at ≤ at + answerRoom
-  pub short : t .at ≤ at + answerRoom * (t .run .lines - r .lines)
+pub record Goes (r : code.Run) (carry chunk : List ℕ) (from : ℕ) (out : List ℕ) (at : ℕ) (carry′ out′ : List ℕ) (s : code.Run) (i to : ℕ) : Type 0 where
+  pub moves : Moves r carry chunk from i s carry′
+  pub text : Put out at (says (midOf r carry) (between from i chunk)) out′ to
+  pub up : r .lines ≤ s .lines
+  pub short : to ≤ at + answerRoom * (s .lines - r .lines)
 
 -- the chunk ends before the line does
 pub carried-turn : (r : code.Run) (carry carry′ chunk out : List ℕ) (from e at h : ℕ) → Kept r carry → r .lines < limit → from < length chunk
     → (e ≡ from + length (upTo lineFeed (drop from chunk))) × (e ≤ length chunk) → e ≡ length chunk → length carry′ ≡ length carry
     → (h ≤ carrySize) × (take h carry′ ≡ take carrySize (take (r .have) carry ++ take (e - from) (drop from chunk)))
-    → Turns r carry chunk from out at (record { run = record { detector = r .detector; lines = r .lines; have = h }; next = e; at = at }) carry′ out
+    → Goes r carry chunk from out at carry′ out (record { detector = r .detector; lines = r .lines; have = h }) e at
 carried-turn r carry carry′ chunk out from e at h k n i f q w p =
     let j : from ≤ length chunk = omega arith in
     record {
@@ -199,7 +197,6 @@ carried-turn r carry carry′ chunk out from e at h k n i f q w p =
       };
       text = subst (λ (z : List ℕ). Put out at z out at) (sym (part-says (r .have) carry (runOf r) (k .have) n chunk from e j (f .0))) (record { bytes = refl; place = omega arith });
       up = omega arith;
-      place = omega arith;
       short = omega arith;
     }
 
@@ -208,7 +205,7 @@ pub line-turn : (r : code.Run) (carry carry′ chunk out out′ : List ℕ) (fro
     → (e ≡ from + length (upTo lineFeed (drop from chunk))) × (e ≤ length chunk) → (e ≡ length chunk → ⊥) → length carry′ ≡ length carry
     → l ≡ lineOf (take (r .have) carry ++ take (e - from) (drop from chunk))
     → Valid d × (tables d ≡ lineResult (tables (r .detector)) l .tables) × Put out at (resultText (r .lines + 1) (lineResult (tables (r .detector)) l)) out′ to × (to ≤ at + answerRoom)
-    → Turns r carry chunk from out at (record { run = record { detector = d; lines = r .lines + 1; have = 0 }; next = e + 1; at = to }) carry′ out′
+    → Goes r carry chunk from out at carry′ out′ (record { detector = d; lines = r .lines + 1; have = 0 }) (e + 1) to
 line-turn r carry carry′ chunk out out′ from e at to d l k n i f q w c p =
     let j : from ≤ length chunk = omega arith in
     let u : l ≡ lineOf (take (r .have) carry ++ between from e chunk) = c ∙ ap (λ (z : List ℕ). lineOf (take (r .have) carry ++ z)) (slice-cut from e chunk j (omega (arith, f .0))) in
@@ -227,6 +224,5 @@ line-turn r carry carry′ chunk out out′ from e at to d l k n i f q w c p =
           ∙ sym (line-says (r .have) carry (runOf r) (k .have) n chunk from e j (f .0) b))
           (p .2);
       up = omega arith;
-      place = p .3;
       short = omega (arith, p .3);
     }

@@ -48,17 +48,17 @@ pub record Kept (r : Run) (carry : List ℕ) : Type 0 where
 abbrev pub between : ℕ → ℕ → List ℕ → List ℕ
 between from to c = drop from (take to c)
 
--- from the run r to the run t .run over the bytes of the chunk up to t .next
-pub record Moves (r : Run) (carry chunk : List ℕ) (from : ℕ) (t : Turned) (carry′ : List ℕ) : Type 0 where
-  pub kept : Kept (t .run) carry′
-  pub onward : from ≤ t .next
-  pub inside : t .next ≤ length chunk
-  pub after : midOf (t .run) carry′ ≡ fed (midOf r carry) (between from (t .next) chunk)
+-- from the run r to the run r′ over the bytes of the chunk from one place to another
+pub record Moves (r : Run) (carry chunk : List ℕ) (from to : ℕ) (r′ : Run) (carry′ : List ℕ) : Type 0 where
+  pub kept : Kept r′ carry′
+  pub onward : from ≤ to
+  pub inside : to ≤ length chunk
+  pub after : midOf r′ carry′ ≡ fed (midOf r carry) (between from to chunk)
 
 -- line after line, up to the chunk's end, the last line that is read, or where the longest answer has no room; no line prints
 -- more than the longest answer
 pub record Feeds (r : Run) (carry chunk : List ℕ) (from : ℕ) (out : List ℕ) (at : ℕ) (t : Turned) (carry′ out′ : List ℕ) : Type 0 where
-  pub moves : Moves r carry chunk from t carry′
+  pub moves : Moves r carry chunk from (t .next) (t .run) carry′
   pub text : Put out at (says (midOf r carry) (between from (t .next) chunk)) out′ (t .at)
   pub place : t .at ≤ length out
   pub short : t .at ≤ at + answerRoom * (t .run .lines - r .lines)

@@ -2,9 +2,6 @@ use Rattle.runner.proofs.Lines.{last-closed}
 use lib.Seq.{sets, length-take-le}
 use borrow.Author.Needs.{needs}
 use mathlib.Core.Path.{sym, ap, _∙_}
-use mathlib.Core.Bool.{Bool}
-use mathlib.Core.List.{List}
-use Prim.Native.Nat.{ℕ}
 use native.Mathlib.Omega.{arith}
 use Rattle.runner.proofs.chunks.end.Statement.{statement}
 use Rattle.runner.proofs.chunks.end.Tie as tie

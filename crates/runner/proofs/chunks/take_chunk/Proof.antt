@@ -1,6 +1,6 @@
 use Rattle.demands.specs.Reached.{room}
-use Rattle.transcript.specs.Code.{midOf}
-use Rattle.transcript.proofs.Chunk.{Taken, taken-none, taken-more, taken-all, taken-full}
+use Rattle.transcript.specs.Code.{Moves}
+use Rattle.transcript.proofs.Chunk.{moves-none, moves-on, moves-all, moves-full}
 use Rattle.runner.specs.Code.{space}
 use lib.Seq.{length-take-le}
 use borrow.Author.Needs.{needs}
@@ -13,7 +13,7 @@ use Rattle.runner.proofs.chunks.take_chunk.Statement.{statement}
 use Rattle.runner.proofs.chunks.take_chunk.Tie as tie
 
 abbrev Inv-loop : tie.InvT-loop
-Inv-loop tables carry₀ chunk out₀ buf₀ r₀ i₀ carry out buf r i = Taken (midOf r₀ carry₀) chunk carry r i × (length out ≡ space) × (length buf ≡ room) × (length carry ≡ length carry₀) × (length out ≡ length out₀) × (length buf ≡ length buf₀)
+Inv-loop tables carry₀ chunk out₀ buf₀ r₀ i₀ carry out buf r i = Moves r₀ carry₀ chunk 0 i r carry × (length out ≡ space) × (length buf ≡ room) × (length carry ≡ length carry₀) × (length out ≡ length out₀) × (length buf ≡ length buf₀)
 
 abbrev μ-loop : tie.MeasureT-loop
 μ-loop tables carry₀ chunk out₀ buf₀ r₀ i₀ carry out buf r i = length chunk - i
@@ -21,7 +21,7 @@ abbrev μ-loop : tie.MeasureT-loop
 loop-holds : tie.Need-loop-holds Inv-loop μ-loop
 loop-holds c =
     let s = c .before .before .before .before in
-    (taken-none _ _ _ (s .pre .0), s .pre .1, s .pre .2, refl, refl, refl)
+    (moves-none _ _ _ 0 (s .pre .0) (omega arith), s .pre .1, s .pre .2, refl, refl, refl)
 
 same-length : tie.Need-same-length Inv-loop μ-loop
 same-length c = c .before .before .before .loop .inv .3
@@ -35,7 +35,7 @@ same-length-3 c = c .before .before .before .loop .inv .5
 returns : tie.Need-returns Inv-loop μ-loop
 returns c =
     let v = c .before .before .before .loop .inv in
-    (v .0 .kept, λ e. taken-full (v .0) (c .if1 .taken))
+    (v .0 .kept, λ e. moves-full (v .0) (c .if1 .taken))
 
 put-part-requires : tie.Need-put-part-requires Inv-loop μ-loop
 put-part-requires c κs =
@@ -76,7 +76,7 @@ loop-again : tie.Need-loop-again Inv-loop μ-loop
 loop-again c =
     let t = c .before .before .before .before .before .before .before .before .before .before .put-part in
     let v = c .before .before .before .before .before .before .before .before .before .before .before .before .before .before .before .before .before .loop .inv in (
-      taken-more (v .0) (t .ensures .moves),
+      moves-on (v .0) (t .ensures .moves),
       t .kept .1 .1 .1 .1 .1 .0 ∙ v .1,
       t .kept .1 .1 .1 .1 .1 .1 .0 ∙ v .2,
       t .kept .1 .1 .0 ∙ v .3,
@@ -96,7 +96,7 @@ same-length-9 c = c .before .loop .inv .5
 returns-3 : tie.Need-returns-3 Inv-loop μ-loop
 returns-3 c =
     let v = c .before .loop .inv in
-    (v .0 .kept, λ e. taken-all (v .0) (c .loop-test .left))
+    (v .0 .kept, λ e. moves-all (v .0) (c .loop-test .left))
 
 pub take-chunk-spec : {M : Type 1} → statement M
 take-chunk-spec =

@@ -1,8 +1,7 @@
 use Rattle.transcript.proofs.Answering.{Met, met-served, met-refused, met-unread}
-use Rattle.transcript.proofs.Turning.{told-room, told-line, carried-turn, line-turn}
-use Rattle.transcript.proofs.Feeding.{Going, going-none, going-turn, going-done}
+use Rattle.transcript.proofs.Turning.{Goes, told-room, told-line, carried-turn, line-turn}
+use Rattle.transcript.proofs.Feeding.{goes-none, goes-on, goes-done}
 use Rattle.demands.specs.Reached.{room}
-use Rattle.transcript.specs.Code.{midOf}
 use Rattle.answers.proofs.Bounds.{Bytes}
 use Rattle.detector.specs.State.{tables, Valid}
 use Rattle.detector.proofs.Numbers.{Accepted, accepted, room-left}
@@ -10,7 +9,7 @@ use Rattle.detector.proofs.Promises.{not-full}
 use borrow.Author.Needs.{needs}
 use mathlib.Core.Path.{_≡_, refl, sym, _∙_}
 use mathlib.Core.Logic.{inl, inr}
-use Prim.Native.Nat.{_-_, _<_, _^_}
+use Prim.Native.Nat.{_-_, _<_, _≤_, _^_}
 use native.Mathlib.Omega.{arith}
 use lib.ListN.{length}
 use Rattle.transcript.proofs.run.feed_within.Statement.{statement}
@@ -18,14 +17,16 @@ use Rattle.transcript.proofs.run.feed_within.Tie as tie
 
 abbrev Inv-loop : tie.InvT-loop
 Inv-loop carry₀ chunk from out₀ at buf₀ s₀ n₀ h₀ i₀ to₀ carry out buf s n h i to =
-    Going (midOf (record { detector = s₀; lines = n₀; have = h₀ }) carry₀) chunk from out₀ at carry out (record { detector = s; lines = n; have = h }) i to
-    × (length buf ≡ room) × Bytes buf × (length carry ≡ length carry₀) × (length out ≡ length out₀) × (length buf ≡ length buf₀)
+    Goes (record { detector = s₀; lines = n₀; have = h₀ }) carry₀ chunk from out₀ at carry out (record { detector = s; lines = n; have = h }) i to
+    × (length buf ≡ room) × Bytes buf × (length carry ≡ length carry₀) × (length out ≡ length out₀) × (length buf ≡ length buf₀) × (to ≤ length out)
 
 abbrev μ-loop : tie.MeasureT-loop
 μ-loop carry₀ chunk from out₀ at buf₀ s₀ n₀ h₀ i₀ to₀ carry out buf s n h i to = length chunk - i
 
 loop-holds : tie.Need-loop-holds Inv-loop μ-loop
-loop-holds c = (going-none _ _ _ _ _ _ (c .before .before .before .before .before .pre .0 .0) (c .before .before .before .before .before .pre .1 .0) (c .before .before .before .before .before .pre .1 .1), c .before .before .before .before .before .pre .0 .1, (λ i. omega (arith, c .before .slice-known3 .given i)), refl, refl, refl)
+loop-holds c =
+    let p = c .before .before .before .before .before .pre in
+    (goes-none _ _ _ _ _ _ (p .0 .0) (p .1 .0), p .0 .1, (λ i. omega (arith, c .before .slice-known3 .given i)), refl, refl, refl, p .1 .1)
 
 same-length : tie.Need-same-length Inv-loop μ-loop
 same-length c = c .before .before .loop .inv .3
@@ -37,10 +38,12 @@ same-length-3 : tie.Need-same-length-3 Inv-loop μ-loop
 same-length-3 c = c .before .before .loop .inv .5
 
 returns : tie.Need-returns Inv-loop μ-loop
-returns c = going-done (c .before .before .loop .inv .0) (λ h k. absurd (omega (arith, k, c .if1 .taken))) _ _ refl
+returns c =
+    let v = c .before .before .loop .inv in
+    goes-done (v .0) (omega (arith, v .4, v .6)) (λ h k. absurd (omega (arith, k, c .if1 .taken)))
 
 sub-if2 : tie.Need-sub-if2 Inv-loop μ-loop
-sub-if2 c = omega (arith, c .before .before .loop .inv .0 .place, c .before .before .loop .inv .4)
+sub-if2 c = c .before .before .loop .inv .6
 
 same-length-4 : tie.Need-same-length-4 Inv-loop μ-loop
 same-length-4 c = c .before .before .before .loop .inv .3
@@ -52,10 +55,12 @@ same-length-6 : tie.Need-same-length-6 Inv-loop μ-loop
 same-length-6 c = c .before .before .before .loop .inv .5
 
 returns-2 : tie.Need-returns-2 Inv-loop μ-loop
-returns-2 c = going-done (c .before .before .before .loop .inv .0) (λ h k. omega (arith, c .if2 .taken, c .before .before .before .loop .inv .4, c .before .before .before .loop .inv .0 .place)) _ _ refl
+returns-2 c =
+    let v = c .before .before .before .loop .inv in
+    goes-done (v .0) (omega (arith, v .4, v .6)) (λ h k. omega (arith, c .if2 .taken, v .4, v .6))
 
 line-end-requires : tie.Need-line-end-requires Inv-loop μ-loop
-line-end-requires c κs = c .before .before .before .loop .inv .0 .inside
+line-end-requires c κs = c .before .before .before .loop .inv .0 .moves .inside
 
 sub-keep : tie.Need-sub-keep Inv-loop μ-loop
 sub-keep c = omega (arith, c .before .before .line-end .ensures)
@@ -67,7 +72,7 @@ part-keep-end : tie.Need-part-keep-end Inv-loop μ-loop
 part-keep-end c = omega (arith, c .before .before .line-end .ensures)
 
 keep-requires : tie.Need-keep-requires Inv-loop μ-loop
-keep-requires c κs = (c .before .before .before .before .before .before .before .loop .inv .0 .kept .long, c .before .before .before .before .before .before .before .loop .inv .0 .kept .have)
+keep-requires c κs = (c .before .before .before .before .before .before .before .loop .inv .0 .moves .kept .long, c .before .before .before .before .before .before .before .loop .inv .0 .moves .kept .have)
 
 same-length-7 : tie.Need-same-length-7 Inv-loop μ-loop
 same-length-7 c = c .before .before .keep .kept .0 ∙ c .before .before .before .before .before .before .before .before .before .before .loop .inv .3
@@ -80,10 +85,12 @@ same-length-9 c = c .before .before .before .before .before .before .before .bef
 
 returns-3 : tie.Need-returns-3 Inv-loop μ-loop
 returns-3 c =
-    let v = c .before .before .before .before .before .before .before .before .before .before .loop .inv .0 in
+    let v = c .before .before .before .before .before .before .before .before .before .before .loop .inv in
     let k = c .before .before .keep in
-    going-done (going-turn v _ _ _ (omega (arith, c .before .before .before .before .before .before .before .if2 .left, v .place, c .before .before .before .before .before .before .before .before .before .before .loop .inv .4)) (carried-turn _ _ _ _ _ _ _ _ _ (v .kept) (omega (arith, v .kept .lines, c .before .before .before .before .before .before .before .before .if1 .left)) (c .before .before .before .before .before .before .before .before .before .loop-test .taken) (c .before .before .before .before .before .before .line-end .ensures) (c .before .before .before .before .before .if3 .taken) (k .kept .0) (k .ensures)))
-    (λ h k. absurd (omega (arith, h, c .before .before .before .before .before .if3 .taken))) _ _ refl
+    goes-done
+    (goes-on (v .0) (carried-turn _ _ _ _ _ _ _ _ _ (v .0 .moves .kept) (omega (arith, v .0 .moves .kept .lines, c .before .before .before .before .before .before .before .before .if1 .left)) (c .before .before .before .before .before .before .before .before .before .loop-test .taken) (c .before .before .before .before .before .before .line-end .ensures) (c .before .before .before .before .before .if3 .taken) (k .kept .0) (k .ensures)))
+    (omega (arith, v .4, v .6))
+    (λ h k. absurd (omega (arith, h, c .before .before .before .before .before .if3 .taken)))
 
 sub-line-of : tie.Need-sub-line-of Inv-loop μ-loop
 sub-line-of c = omega (arith, c .before .before .line-end .ensures)
@@ -95,17 +102,17 @@ part-line-of-end : tie.Need-part-line-of-end Inv-loop μ-loop
 part-line-of-end c = omega (arith, c .before .before .line-end .ensures)
 
 line-of-requires : tie.Need-line-of-requires Inv-loop μ-loop
-line-of-requires c κs = (c .before .before .before .before .before .before .before .loop .inv .0 .kept .long, c .before .before .before .before .before .before .before .loop .inv .0 .kept .have)
+line-of-requires c κs = (c .before .before .before .before .before .before .before .loop .inv .0 .moves .kept .long, c .before .before .before .before .before .before .before .loop .inv .0 .moves .kept .have)
 
 enum-known-line : tie.Need-enum-known-line Inv-loop μ-loop
 enum-known-line c = search needs
 
 refusal-requires : tie.Need-refusal-requires Inv-loop μ-loop
-refusal-requires c κs = c .before .before .before .before .before .before .before .before .before .before .before .before .before .loop .inv .0 .kept .valid
+refusal-requires c κs = c .before .before .before .before .before .before .before .before .before .before .before .before .before .loop .inv .0 .moves .kept .valid
 
 -- the state is valid, and the event is not refused
 valid : (c : tie.Then4 Inv-loop μ-loop) → Valid (c .before .before .before .before .before .before .before .before .before .before .before .before .before .before .before .loop .s)
-valid c = c .before .before .before .before .before .before .before .before .before .before .before .before .before .before .before .loop .inv .0 .kept .valid
+valid c = c .before .before .before .before .before .before .before .before .before .before .before .before .before .before .before .loop .inv .0 .moves .kept .valid
 
 not-refused : (c : tie.Then4 Inv-loop μ-loop) → Accepted (tables (c .before .before .before .before .before .before .before .before .before .before .before .before .before .before .before .loop .s)) (length (c .before .before .before .before .before .before .before .before .before .before .before .before .before .before .before .loop .buf)) (c .before .before .before .line .given .0 .0)
 not-refused c = accepted _ _ _ (sym (c .before .refusal .ensures) ∙ c .if4 .taken)
@@ -279,7 +286,7 @@ enum-told c = search needs
 met : (c : tie.At-match-came Inv-loop μ-loop) → Met (c .before .before .before .before .before .before .before .before .before .before .before .loop .s) (c .before .before .before .line-of .result) (c .before .before .before .before .before .before .before .before .before .before .before .loop .buf) (c .match .s) (c .match .reply) (c .match .buf)
 met c =
     let l = c .before .before .before .before .before .before .before .before .before .before .before .loop in
-    let g = l .inv .0 .kept .valid in
+    let g = l .inv .0 .moves .kept .valid in
     let n = l .inv .1 in
     elim (c .match .came) [
       | inl w ↦ met-served g n (w .1 .given .1) (w .3 .ensures) (w .4 .taken) (w .6 .given .1) (w .9 .ensures) (w .9 .kept .1 .1 .1 .1 .0) (λ i. omega (arith, w .11 .given i)) (w .13) (w .14) (w .15)
@@ -305,13 +312,13 @@ met c =
     ]
 
 add-n : tie.Need-add-n Inv-loop μ-loop
-add-n c = omega (arith, c .before .before .before .before .before .before .before .before .before .before .before .loop .inv .0 .kept .lines, c .before .before .before .before .before .before .before .before .before .if1 .left)
+add-n c = omega (arith, c .before .before .before .before .before .before .before .before .before .before .before .loop .inv .0 .moves .kept .lines, c .before .before .before .before .before .before .before .before .before .if1 .left)
 
 put-answer-requires : tie.Need-put-answer-requires Inv-loop μ-loop
 put-answer-requires c κs =
     let v = c .before .before .before .before .before .before .before .before .before .before .before .before .before .loop .inv in
     let m = met (c .before .before) in
-    told-room _ _ _ _ (omega (arith, v .0 .kept .lines)) (m .bytes) (m .results) _ _ (m .long ∙ v .1) (omega (arith, c .before .before .before .before .before .before .before .before .before .before .if2 .left, v .0 .place, v .4))
+    told-room _ _ _ _ (omega (arith, v .0 .moves .kept .lines)) (m .bytes) (m .results) _ _ (m .long ∙ v .1) (omega (arith, c .before .before .before .before .before .before .before .before .before .before .if2 .left, v .6))
 
 chunk-fits : (c : tie.Start Inv-loop μ-loop) → length (c .args .chunk .now) < 2 ^ 64
 chunk-fits c = search needs
@@ -330,15 +337,16 @@ loop-again c =
     let p = c .before .before .put-answer in
     let f = c .before .before .before .before .before .before .before .before .before .before .before .before .line-end in
     let r = c .before .before .before .before .before .before .before .before .line-of in
-    let t = told-line _ _ _ _ (omega (arith, v .0 .kept .lines)) (m .bytes) (m .results) _ _ _ _ (p .ensures) in (
-      going-turn (v .0) _ _ _ (omega (arith, c .before .before .before .before .before .before .before .before .before .before .before .before .before .if2 .left, v .0 .place, v .4))
+    let t = told-line _ _ _ _ (omega (arith, v .0 .moves .kept .lines)) (m .bytes) (m .results) _ _ _ _ (p .ensures) in (
+      goes-on (v .0)
           (line-turn (record { detector = l .s; lines = l .n; have = l .h }) (l .carry) (r .last .0) _ (l .out) (p .last .0) (l .i) (f .result) (l .to) (p .result) (c .before .before .before .before .before .match .s) (r .result)
-          (v .0 .kept) (omega (arith, v .0 .kept .lines, c .before .before .before .before .before .before .before .before .before .before .before .before .before .before .if1 .left)) (c .before .before .before .before .before .before .before .before .before .before .before .before .before .before .before .loop-test .taken) (f .ensures) (c .before .before .before .before .before .before .before .before .before .before .before .if3 .left) (r .kept .0) (r .ensures) t),
+          (v .0 .moves .kept) (omega (arith, v .0 .moves .kept .lines, c .before .before .before .before .before .before .before .before .before .before .before .before .before .before .if1 .left)) (c .before .before .before .before .before .before .before .before .before .before .before .before .before .before .before .loop-test .taken) (f .ensures) (c .before .before .before .before .before .before .before .before .before .before .before .if3 .left) (r .kept .0) (r .ensures) t),
       m .long ∙ v .1,
       m .bytes,
       r .kept .0 ∙ v .3,
       p .kept .0 ∙ v .4,
       m .long ∙ v .5,
+      omega (arith, t .3, p .kept .0, c .before .before .before .before .before .before .before .before .before .before .before .before .before .if2 .left, v .6),
     )
 
 same-length-10 : tie.Need-same-length-10 Inv-loop μ-loop
@@ -351,7 +359,9 @@ same-length-12 : tie.Need-same-length-12 Inv-loop μ-loop
 same-length-12 c = c .before .loop .inv .5
 
 returns-4 : tie.Need-returns-4 Inv-loop μ-loop
-returns-4 c = going-done (c .before .loop .inv .0) (λ h k. absurd (omega (arith, h, c .loop-test .left))) _ _ refl
+returns-4 c =
+    let v = c .before .loop .inv in
+    goes-done (v .0) (omega (arith, v .4, v .6)) (λ h k. absurd (omega (arith, h, c .loop-test .left)))
 
 pub feed-within-spec : {M : Type 1} → statement M
 feed-within-spec =
