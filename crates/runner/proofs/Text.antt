@@ -10,7 +10,7 @@ use Rattle.script.specs.Fields.{onFirst}
 use Rattle.listing.specs.Listing.{tablesText}
 use Rattle.transcript.specs.Lines.{lineFeed, linesOf}
 use Rattle.transcript.specs.Replay.{Run, Result, limit, begun, after, lineText, resultText}
-use Rattle.transcript.specs.Chunks.{carrySize, Mid, mid, start, step, fed, lastLine, joined}
+use Rattle.transcript.specs.Chunks.{carrySize, Mid, mid, start, step, fed, lastLine, together}
 use Rattle.transcript.proofs.Text.{fed-joined, cut-result, cut-more}
 use Rattle.runner.specs.Shown.{lineShown, shownOf, shownText, shown, shows, closes, showsAll, ShownTheorem}
 use Rattle.runner.specs.Code.{lineEnds}
@@ -23,10 +23,10 @@ unfolding fed shows
 shows-append m [] b = refl
 shows-append m (x ∷ a) b = rw (shows-append (step m x) a b, append-assoc)
 
-shows-joined : (m : Mid) (ts : List (List ℕ)) → showsAll m ts ≡ shows m (joined ts)
-unfolding showsAll shows joined
+shows-joined : (m : Mid) (ts : List (List ℕ)) → showsAll m ts ≡ shows m (together ts)
+unfolding showsAll shows together
 shows-joined m [] = refl
-shows-joined m (t ∷ ts) = ap (λ (x : List ℕ). shows m t ++ x) (shows-joined (fed m t) ts) ∙ sym (shows-append m t (joined ts))
+shows-joined m (t ∷ ts) = ap (λ (x : List ℕ). shows m t ++ x) (shows-joined (fed m t) ts) ∙ sym (shows-append m t (together ts))
 
 -- ---- a line cut where the carry ends shows as the whole line
 
@@ -95,4 +95,4 @@ whole (b ∷ t) = λ p h r. whole-byte (ltb (r .lines) limit) (eqb b lineFeed) b
 
 pub shown-theorem : ShownTheorem
 unfolding shownText Whole lineEnds
-shown-theorem ts = rw (shows-joined start ts, fed-joined start ts) (whole (joined ts) [] refl begun)
+shown-theorem ts = rw (shows-joined start ts, fed-joined start ts) (whole (together ts) [] refl begun)

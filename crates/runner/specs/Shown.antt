@@ -8,7 +8,7 @@ use lib.Dec.{eqb, ltb}
 use Rattle.listing.specs.Listing.{tablesText}
 use Rattle.transcript.specs.Lines.{lineFeed, linesOf}
 use Rattle.transcript.specs.Replay.{Run, limit, begun, after, lineText, lastText}
-use Rattle.transcript.specs.Chunks.{Mid, start, step, fed, lastLine, fedAll, joined}
+use Rattle.transcript.specs.Chunks.{Mid, start, step, fed, lastLine, fedAll, together}
 
 -- the line l is the next one: its answer, and the tables after it
 unfoldable pub lineShown : Run → List ℕ → List ℕ
@@ -44,7 +44,7 @@ showsAll m (t ∷ ts) = shows m t ++ showsAll (fed m t) ts
 
 -- THE TEXT THEOREM of tables: whatever the chunks, what is printed for them and at their end is the text of their concatenation
 abbrev pub ShownTheorem : Type 0
-ShownTheorem = (ts : List (List ℕ)) → showsAll start ts ++ closes (fedAll start ts) ≡ shownText (joined ts)
+ShownTheorem = (ts : List (List ℕ)) → showsAll start ts ++ closes (fedAll start ts) ≡ shownText (together ts)
 
 -- A LAST LINE THAT LACKS ITS LINE FEED is shown as if it had it
 abbrev pub OpenShown : Type 0

@@ -16,7 +16,7 @@ ghost use Rattle.demands.specs.Reached.{room};
 ghost use Rattle.transcript.specs.Lines.{lineFeed};
 ghost use Rattle.transcript.specs.Replay.{limit};
 ghost use Rattle.transcript.specs.Chunks.{carrySize, fed};
-ghost use Rattle.transcript.specs.Code.{Kept, midOf};
+ghost use Rattle.transcript.specs.Code.{IsRun, midOf};
 ghost use Rattle.runner.specs.Code.{space, printsLast};
 
 // No contract can say what is read: this count of turns bounds the loop that reads.
@@ -44,8 +44,8 @@ fn take_chunk(
     out: &mut [u8],
     buf: &mut [u8],
 ) -> Held
-    requires { ⌜ Kept run (now carry) × (length (now out) ≡ space) × (length (now buf) ≡ room) ⌝ }
-    ensures { λ r. ⌜ Kept (r .run) (now (carry .exit)) × (r .open ≡ true → midOf (r .run) (now (carry .exit)) ≡ fed (midOf run (now (carry .entry))) (now (chunk .entry))) ⌝ }
+    requires { ⌜ IsRun run (now carry) × (length (now out) ≡ space) × (length (now buf) ≡ room) ⌝ }
+    ensures { λ r. ⌜ IsRun (r .run) (now (carry .exit)) × (r .open ≡ true → midOf (r .run) (now (carry .exit)) ≡ fed (midOf run (now (carry .entry))) (now (chunk .entry))) ⌝ }
 {
     let mut r = run;
     let mut i = 0;
@@ -69,7 +69,7 @@ fn take_chunk(
 
 // The sums, where no line is left to answer: with and without tables the same text.
 fn end(run: Run, carry: &[u8], out: &mut [u8]) -> Ending
-    requires { ⌜ Kept run (now carry) × ((run .have ≡ 0) ⊎ (run .lines ≡ limit)) × (length (now out) ≡ space) ⌝ }
+    requires { ⌜ IsRun run (now carry) × ((run .have ≡ 0) ⊎ (run .lines ≡ limit)) × (length (now out) ≡ space) ⌝ }
     ensures { λ _. ⌜ ((tables : Bool) → now (out .exit) ≡ sets (now (out .entry)) 0 (printsLast tables (midOf run (now (carry .entry))))) ⌝ }
 {
     let to = finish_within(run, carry, out, 0);

@@ -8,7 +8,7 @@ ghost use Prim.Native.Nat.{_<_};
 ghost use lib.ListN.{length};
 ghost use Rattle.demands.specs.Reached.{room};
 ghost use Rattle.transcript.specs.Replay.{limit};
-ghost use Rattle.transcript.specs.Code.{Kept};
+ghost use Rattle.transcript.specs.Code.{IsRun};
 ghost use Rattle.runner.specs.Code.{space, Part, Puts};
 
 // With tables: behind the line feed of the line that starts at from, or the chunk's end.
@@ -40,7 +40,7 @@ pub(crate) fn put_part(
     out: &mut [u8],
     buf: &mut [u8],
 ) -> Turned
-    requires { ⌜ Kept run (now carry) × (run .lines < limit) × (from < length (now chunk)) ⌝ }
+    requires { ⌜ IsRun run (now carry) × (run .lines < limit) × (from < length (now chunk)) ⌝ }
     requires { ⌜ (length (now out) ≡ space) × (length (now buf) ≡ room) ⌝ }
     ensures { λ r. ⌜ Puts tables run (now (carry .entry)) (now (chunk .entry)) from (now (out .entry)) r (now (carry .exit)) (now (out .exit)) ⌝ }
 {

@@ -11,7 +11,7 @@ use borrow.Author.Tests.{ltb-true, ltb-false}
 use lib.Seq.{length-take-le, take-append-seam, drop-append-seam}
 use Rattle.answers.specs.Text.{Room, Put}
 use Rattle.answers.proofs.Puts.{puts-coincide, put-whole}
-use Rattle.transcript.specs.Chunks.{Mid, start, mid, fed, says, ends, fedAll, saysAll, joined}
+use Rattle.transcript.specs.Chunks.{Mid, start, mid, fed, says, ends, fedAll, saysAll, together}
 use Rattle.transcript.specs.Lines.{linesOf}
 use Rattle.transcript.specs.Replay as replay
 use Rattle.transcript.specs.Replay.{limit, begun, after, lineText, lastText, textOf, replayText}
@@ -62,17 +62,17 @@ all-printed ts all p =
 
 -- ---- an answer for each line that is read, and an end
 
-text-answers : (ls : List (List ℕ)) (r : replay.Run) → textOf r ls ≡ joined (answersOf r ls) ++ lastText (lastOf r ls)
-unfolding textOf answersOf lastOf joined
+text-answers : (ls : List (List ℕ)) (r : replay.Run) → textOf r ls ≡ together (answersOf r ls) ++ lastText (lastOf r ls)
+unfolding textOf answersOf lastOf together
 text-answers [] r = refl
 text-answers (l ∷ ls) r = go (ltb (r .lines) limit) (text-answers ls (after r l))
   where
-    go : (b : Bool) → textOf (after r l) ls ≡ joined (answersOf (after r l) ls) ++ lastText (lastOf (after r l) ls)
+    go : (b : Bool) → textOf (after r l) ls ≡ together (answersOf (after r l) ls) ++ lastText (lastOf (after r l) ls)
         → cond b (lineText r l ++ textOf (after r l) ls) (lastText r)
-        ≡ joined (cond b (lineText r l ∷ answersOf (after r l) ls) []) ++ lastText (cond b (lastOf (after r l) ls) r)
+        ≡ together (cond b (lineText r l ∷ answersOf (after r l) ls) []) ++ lastText (cond b (lastOf (after r l) ls) r)
     go true ih =
         ap (λ (x : List ℕ). lineText r l ++ x) ih
-        ∙ sym (append-assoc (lineText r l) (joined (answersOf (after r l) ls)) (lastText (lastOf (after r l) ls)))
+        ∙ sym (append-assoc (lineText r l) (together (answersOf (after r l) ls)) (lastText (lastOf (after r l) ls)))
     go false ih = refl
 
 lines-answers : (ls : List (List ℕ)) (r : replay.Run) → lastOf r ls .lines ≡ r .lines + length (answersOf r ls)

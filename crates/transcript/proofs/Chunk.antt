@@ -10,7 +10,7 @@ use lib.ListN.{length, take, drop, take-append-drop}
 use lib.Seq.{slice-empty, take-take, take-all, drop-append-le, length-take-le}
 use Rattle.transcript.specs.Replay.{limit}
 use Rattle.transcript.specs.Chunks.{Mid, step, fed}
-use Rattle.transcript.specs.Code.{Kept, midOf, between, Moves}
+use Rattle.transcript.specs.Code.{IsRun, midOf, between, Moves}
 use Rattle.transcript.specs.declared.run.Run.{Run}
 use Rattle.transcript.proofs.Text.{fed-append}
 
@@ -28,7 +28,7 @@ between-on a b c l h g k =
     ap (drop a) (sym (take-append-drop b (take c l)) ∙ ap (λ (x : List ℕ). x ++ drop b (take c l)) (take-take b c l g))
     ∙ drop-append-le a (take b l) (drop b (take c l)) (omega (arith, length-take-le b l (omega arith)))
 
-pub moves-none : (r : Run) (carry chunk : List ℕ) (from : ℕ) → Kept r carry → from ≤ length chunk → Moves r carry chunk from from r carry
+pub moves-none : (r : Run) (carry chunk : List ℕ) (from : ℕ) → IsRun r carry → from ≤ length chunk → Moves r carry chunk from from r carry
 unfolding fed
 moves-none r carry chunk from k h = record { kept = k; onward = omega arith; inside = h; after = sym (ap (fed (midOf r carry)) (slice-empty from chunk)) }
 

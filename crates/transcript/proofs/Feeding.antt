@@ -20,7 +20,7 @@ use Rattle.detector.specs.Stuck.{stuckCount, edgeCount}
 use Rattle.transcript.specs.Lines.{lineFeed}
 use Rattle.transcript.specs.Replay.{Run, limit, lastText, after, textOf}
 use Rattle.transcript.specs.Chunks.{carrySize, Mid, mid, step, said, fed, says, ends, lastLine, OpenLine}
-use Rattle.transcript.specs.Code.{runOf, midOf, Begins, Kept, between, Feeds}
+use Rattle.transcript.specs.Code.{runOf, midOf, Begins, IsRun, between, Feeds}
 use Rattle.transcript.specs.declared.run.Run as code
 use Rattle.transcript.specs.declared.run.Turned.{Turned}
 use Rattle.transcript.proofs.Text.{says-append, text-full}
@@ -29,7 +29,7 @@ use Rattle.transcript.proofs.Turning.{Goes}
 
 -- ---- turns, one after the other
 
-pub goes-none : (r : code.Run) (carry chunk : List ℕ) (from : ℕ) (out : List ℕ) (at : ℕ) → Kept r carry → from ≤ length chunk → Goes r carry chunk from out at carry out r from at
+pub goes-none : (r : code.Run) (carry chunk : List ℕ) (from : ℕ) (out : List ℕ) (at : ℕ) → IsRun r carry → from ≤ length chunk → Goes r carry chunk from out at carry out r from at
 unfolding says
 goes-none r carry chunk from out at k h =
     record {
@@ -107,5 +107,5 @@ begins d e v =
       have = refl;
     }
 
-pub begins-kept : {r : code.Run} {carry : List ℕ} → Begins r → length carry ≡ carrySize → Kept r carry
+pub begins-kept : {r : code.Run} {carry : List ℕ} → Begins r → length carry ≡ carrySize → IsRun r carry
 begins-kept b h = record { valid = b .valid; lines = omega (arith, ap (λ (u : Run). u .lines) (b .run)); have = omega (arith, b .have); long = h }

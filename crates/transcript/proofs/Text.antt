@@ -13,7 +13,7 @@ use Rattle.script.proofs.Steps.{line-cut}
 use Rattle.detector.specs.Tables.{Tables}
 use Rattle.transcript.specs.Lines.{lineFeed, linesOf}
 use Rattle.transcript.specs.Replay.{Run, limit, begun, lineResult, resultOf, after, lineText, lastText, textOf, replayText}
-use Rattle.transcript.specs.Chunks.{carrySize, Mid, mid, start, step, said, fed, says, lastLine, ends, fedAll, saysAll, joined, TextTheorem}
+use Rattle.transcript.specs.Chunks.{carrySize, Mid, mid, start, step, said, fed, says, lastLine, ends, fedAll, saysAll, together, TextTheorem}
 
 -- ---- feeding a and then b is feeding a ++ b
 
@@ -27,15 +27,15 @@ unfolding fed says
 says-append m [] b = refl
 says-append m (x ∷ a) b = rw (says-append (step m x) a b, append-assoc)
 
-pub fed-joined : (m : Mid) (ts : List (List ℕ)) → fedAll m ts ≡ fed m (joined ts)
-unfolding fedAll fed joined
+pub fed-joined : (m : Mid) (ts : List (List ℕ)) → fedAll m ts ≡ fed m (together ts)
+unfolding fedAll fed together
 fed-joined m [] = refl
-fed-joined m (t ∷ ts) = fed-joined (fed m t) ts ∙ sym (fed-append m t (joined ts))
+fed-joined m (t ∷ ts) = fed-joined (fed m t) ts ∙ sym (fed-append m t (together ts))
 
-says-joined : (m : Mid) (ts : List (List ℕ)) → saysAll m ts ≡ says m (joined ts)
-unfolding saysAll says joined
+says-joined : (m : Mid) (ts : List (List ℕ)) → saysAll m ts ≡ says m (together ts)
+unfolding saysAll says together
 says-joined m [] = refl
-says-joined m (t ∷ ts) = ap (λ (x : List ℕ). says m t ++ x) (says-joined (fed m t) ts) ∙ sym (says-append m t (joined ts))
+says-joined m (t ∷ ts) = ap (λ (x : List ℕ). says m t ++ x) (says-joined (fed m t) ts) ∙ sym (says-append m t (together ts))
 
 -- ---- a line cut where the carry ends answers as the whole line
 
@@ -110,4 +110,4 @@ unfolding replayText Whole
 replays t = whole t [] begun
 
 pub text-theorem : TextTheorem
-text-theorem ts = rw (says-joined start ts, fed-joined start ts) (replays (joined ts))
+text-theorem ts = rw (says-joined start ts, fed-joined start ts) (replays (together ts))

@@ -24,7 +24,7 @@ use Rattle.transcript.specs.Lines.{lineFeed}
 use Rattle.demands.specs.Reached.{room}
 use Rattle.transcript.specs.Replay.{Run, Result, limit, lineResult, resultOf, resultText, after, lineText}
 use Rattle.transcript.specs.Chunks.{carrySize, Mid, mid, step, said, fed, says}
-use Rattle.transcript.specs.Code.{Results, runOf, midOf, Kept, between, Moves}
+use Rattle.transcript.specs.Code.{Results, runOf, midOf, IsRun, between, Moves}
 use Rattle.transcript.specs.declared.run.Run as code
 use Rattle.script.specs.declared.line.Line.{Line}
 use Rattle.transcript.proofs.Text.{fed-append, says-append, cut-result, cut-more}
@@ -182,7 +182,7 @@ pub record Goes (r : code.Run) (carry chunk : List ℕ) (from : ℕ) (out : List
   pub short : to ≤ at + answerRoom * (s .lines - r .lines)
 
 -- the chunk ends before the line does
-pub carried-turn : (r : code.Run) (carry carry′ chunk out : List ℕ) (from e at h : ℕ) → Kept r carry → r .lines < limit → from < length chunk
+pub carried-turn : (r : code.Run) (carry carry′ chunk out : List ℕ) (from e at h : ℕ) → IsRun r carry → r .lines < limit → from < length chunk
     → (e ≡ from + length (upTo lineFeed (drop from chunk))) × (e ≤ length chunk) → e ≡ length chunk → length carry′ ≡ length carry
     → (h ≤ carrySize) × (take h carry′ ≡ take carrySize (take (r .have) carry ++ take (e - from) (drop from chunk)))
     → Goes r carry chunk from out at carry′ out (record { detector = r .detector; lines = r .lines; have = h }) e at
@@ -201,7 +201,7 @@ carried-turn r carry carry′ chunk out from e at h k n i f q w p =
     }
 
 -- the line ends in the chunk
-pub line-turn : (r : code.Run) (carry carry′ chunk out out′ : List ℕ) (from e at to : ℕ) (d : Detector) (l : Line) → Kept r carry → r .lines < limit → from < length chunk
+pub line-turn : (r : code.Run) (carry carry′ chunk out out′ : List ℕ) (from e at to : ℕ) (d : Detector) (l : Line) → IsRun r carry → r .lines < limit → from < length chunk
     → (e ≡ from + length (upTo lineFeed (drop from chunk))) × (e ≤ length chunk) → (e ≡ length chunk → ⊥) → length carry′ ≡ length carry
     → l ≡ lineOf (take (r .have) carry ++ take (e - from) (drop from chunk))
     → Valid d × (tables d ≡ lineResult (tables (r .detector)) l .tables) × Put out at (resultText (r .lines + 1) (lineResult (tables (r .detector)) l)) out′ to × (to ≤ at + answerRoom)

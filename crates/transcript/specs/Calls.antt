@@ -11,7 +11,7 @@ use Rattle.answers.specs.Text.{Put}
 use Rattle.transcript.specs.Lines.{linesOf}
 use Rattle.transcript.specs.Replay as replay
 use Rattle.transcript.specs.Replay.{limit, begun, after, lineText, lastText, replayText}
-use Rattle.transcript.specs.Chunks.{ends, joined}
+use Rattle.transcript.specs.Chunks.{ends, together}
 use Rattle.transcript.specs.Code.{Begins, Feeds, midOf, between}
 use Rattle.transcript.specs.declared.run.Run.{Run}
 use Rattle.transcript.specs.declared.run.Turned.{Turned}
@@ -54,7 +54,7 @@ pub record Printed (ts : List (List ℕ)) (all : List ℕ) : Type 0 where
   pub whole : all ≡ fed ++ out left at behind
 
 abbrev pub AllPrinted : Type 0
-AllPrinted = (ts : List (List ℕ)) (all : List ℕ) → Printed ts all → all ≡ replayText (joined ts)
+AllPrinted = (ts : List (List ℕ)) (all : List ℕ) → Printed ts all → all ≡ replayText (together ts)
 
 -- AN ANSWER AND AN END: the text is the answers of the lines that are read, one each, and then the sums once
 unfoldable pub answersOf : replay.Run → List (List ℕ) → List (List ℕ)
@@ -71,7 +71,7 @@ abbrev pub AllOrLimit : ℕ → ℕ → Type 0
 AllOrLimit n lines = ((n ≡ lines) × (n ≤ limit)) ⊎ ((n ≡ limit) × (limit ≤ lines))
 
 pub record TextAnswered (t : List ℕ) : Type 0 where
-  pub text : replayText t ≡ joined (answersOf begun (linesOf t)) ++ lastText (lastOf begun (linesOf t))
+  pub text : replayText t ≡ together (answersOf begun (linesOf t)) ++ lastText (lastOf begun (linesOf t))
   pub sum : lastOf begun (linesOf t) .lines ≡ length (answersOf begun (linesOf t))
   pub counted : AllOrLimit (length (answersOf begun (linesOf t))) (length (linesOf t))
 

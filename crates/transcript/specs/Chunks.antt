@@ -59,13 +59,13 @@ unfoldable pub saysAll : Mid → List (List ℕ) → List ℕ
 saysAll m [] = []
 saysAll m (t ∷ ts) = says m t ++ saysAll (fed m t) ts
 
-unfoldable pub joined : List (List ℕ) → List ℕ
-joined [] = []
-joined (t ∷ ts) = t ++ joined ts
+unfoldable pub together : List (List ℕ) → List ℕ
+together [] = []
+together (t ∷ ts) = t ++ together ts
 
 -- THE TEXT THEOREM: whatever the chunks, what is printed for them and at their end is the text of their concatenation
 abbrev pub TextTheorem : Type 0
-TextTheorem = (ts : List (List ℕ)) → saysAll start ts ++ ends (fedAll start ts) ≡ replayText (joined ts)
+TextTheorem = (ts : List (List ℕ)) → saysAll start ts ++ ends (fedAll start ts) ≡ replayText (together ts)
 
 -- A LAST LINE THAT LACKS ITS LINE FEED is answered as if it had it
 abbrev pub OpenLine : Type 0

@@ -38,7 +38,7 @@ pub record Begins (r : Run) : Type 0 where
   pub run : runOf r ≡ begun
   pub have : r .have ≡ 0
 
-pub record Kept (r : Run) (carry : List ℕ) : Type 0 where
+pub record IsRun (r : Run) (carry : List ℕ) : Type 0 where
   pub valid : Valid (r .detector)
   pub lines : r .lines ≤ limit
   pub have : r .have ≤ carrySize
@@ -50,7 +50,7 @@ between from to c = drop from (take to c)
 
 -- from the run r to the run r′ over the bytes of the chunk from one place to another
 pub record Moves (r : Run) (carry chunk : List ℕ) (from to : ℕ) (r′ : Run) (carry′ : List ℕ) : Type 0 where
-  pub kept : Kept r′ carry′
+  pub kept : IsRun r′ carry′
   pub onward : from ≤ to
   pub inside : to ≤ length chunk
   pub after : midOf r′ carry′ ≡ fed (midOf r carry) (between from to chunk)

@@ -13,7 +13,7 @@ use Rattle.answers.specs.Text.{Put}
 use Rattle.answers.specs.Answers.{endRoom}
 use Rattle.transcript.specs.Replay.{limit}
 use Rattle.transcript.specs.Chunks.{carrySize, ends}
-use Rattle.transcript.specs.Code.{Kept, Feeds, midOf}
+use Rattle.transcript.specs.Code.{IsRun, Feeds, midOf}
 use Rattle.transcript.specs.declared.run.Run.{Run}
 use Rattle.transcript.specs.declared.entry.Fed.{Fed}
 use Rattle.transcript.specs.declared.entry.Ended.{Ended}
@@ -30,7 +30,7 @@ feedTest r carry chunk from out at buf =
     cond (ltb chunk from) false (cond (ltb out at) false (cond (eqb buf room) (runTest r carry) false))
 
 pub record FeedAsks (r : Run) (carry : List ℕ) (chunk from out at buf : ℕ) : Type 0 where
-  pub kept : Kept r carry
+  pub kept : IsRun r carry
   pub start : from ≤ chunk
   pub place : at ≤ out
   pub reports : buf ≡ room
@@ -43,7 +43,7 @@ endTest r carry out at =
     (cond (eqb (r .have) 0) (runTest r carry) (cond (eqb (r .lines) limit) (runTest r carry) false)))
 
 pub record EndAsks (r : Run) (carry : List ℕ) (out at : ℕ) : Type 0 where
-  pub kept : Kept r carry
+  pub kept : IsRun r carry
   pub closed : (r .have ≡ 0) ⊎ (r .lines ≡ limit)
   pub place : at + endRoom ≤ out
 

@@ -11,7 +11,7 @@ ghost use Rattle.answers.specs.Answers.{endRoom};
 ghost use Rattle.detector.specs.State.{tables, Valid};
 ghost use Rattle.transcript.specs.Replay.{limit, lastText};
 ghost use Rattle.transcript.specs.Chunks.{ends};
-ghost use Rattle.transcript.specs.Code.{Kept, midOf};
+ghost use Rattle.transcript.specs.Code.{IsRun, midOf};
 
 // Lines, edges stored, stuck threads.
 fn put_sums(detector: Detector, lines: usize, out: &mut [u8], at: usize) -> usize
@@ -26,7 +26,7 @@ fn put_sums(detector: Detector, lines: usize, out: &mut [u8], at: usize) -> usiz
 // The sums, where no line is left to answer: none is open, or the last one that is read is answered. A last line that
 // lacks its line feed is first fed one (`open-line`).
 pub fn finish_within(run: Run, carry: &[u8], out: &mut [u8], at: usize) -> usize
-    requires { ⌜ Kept run (now carry) × ((run .have ≡ 0) ⊎ (run .lines ≡ limit)) × (at + endRoom ≤ length (now out)) ⌝ }
+    requires { ⌜ IsRun run (now carry) × ((run .have ≡ 0) ⊎ (run .lines ≡ limit)) × (at + endRoom ≤ length (now out)) ⌝ }
     ensures { λ r. ⌜ Put (now (out .entry)) at (ends (midOf run (now (carry .entry)))) (now (out .exit)) r × (r ≤ at + endRoom) ⌝ }
 {
     let s = run.detector;

@@ -10,12 +10,12 @@ use detector::Detector;
 ghost use mathlib.Core.Path.{_≡_};
 ghost use mathlib.Core.Bool.{true};
 ghost use lib.ListN.{length};
-ghost use Rattle.transcript.specs.Code.{Kept};
+ghost use Rattle.transcript.specs.Code.{IsRun};
 ghost use Rattle.transcript.specs.Entries.{runTest, feedTest, endTest, FeedAsks, EndAsks, FeedsAny, EndsAny};
 
 // Whether it is a run between two bytes of a text, with its carry.
 pub fn is_run(run: Run, carry: &[u8]) -> bool
-    ensures { λ r. ⌜ (r ≡ runTest run (now (carry .entry))) × (r ≡ true → Kept run (now (carry .entry))) ⌝ }
+    ensures { λ r. ⌜ (r ≡ runTest run (now (carry .entry))) × (r ≡ true → IsRun run (now (carry .entry))) ⌝ }
 {
     if LIMIT < run.lines {
         return false;

@@ -12,7 +12,7 @@ ghost use mathlib.Core.Path.{_≡_};
 ghost use Prim.Native.Nat.{_≤_};
 ghost use lib.ListN.{length};
 ghost use Rattle.demands.specs.Reached.{room};
-ghost use Rattle.transcript.specs.Code.{Begins, Kept, Feeds};
+ghost use Rattle.transcript.specs.Code.{Begins, IsRun, Feeds};
 
 // Lines behind this one are not read.
 pub const LIMIT: usize = 1000000;
@@ -54,7 +54,7 @@ pub fn feed_within(
     at: usize,
     buf: &mut [u8],
 ) -> Turned
-    requires { ⌜ Kept run (now carry) × (length (now buf) ≡ room) ⌝ }
+    requires { ⌜ IsRun run (now carry) × (length (now buf) ≡ room) ⌝ }
     requires { ⌜ (from ≤ length (now chunk)) × (at ≤ length (now out)) ⌝ }
     ensures { λ r. ⌜ Feeds run (now (carry .entry)) (now (chunk .entry)) from (now (out .entry)) at r (now (carry .exit)) (now (out .exit)) ⌝ }
 {
