@@ -5,11 +5,10 @@ use mathlib.Core.Bool.{Bool, true, false, false≢true, cond}
 use mathlib.Core.List.{List, [], _∷_, _++_, append-nil}
 use Prim.Native.Nat.{ℕ, suc, _+_, _<_, _≤_}
 use native.Mathlib.Omega.{arith}
-use native.Mathlib.Numerals.{add-one}
-use borrow.Author.Tests.{ne-eqb, lt-ltb, le-ltb}
+use borrow.Author.Tests.{lt-ltb, le-ltb}
 use lib.Dec.{eqb, ltb}
-use lib.ListN.{length, take, drop, getD}
-use lib.Seq.{slice-empty, take-take, take-suc, drop-append-le, length-take-le}
+use lib.ListN.{length, take, drop}
+use lib.Seq.{take-take, length-take-le}
 use Rattle.answers.specs.Text.{Put}
 use Rattle.answers.specs.Answers.{answerRoom}
 use Rattle.answers.proofs.Puts.{then}
@@ -23,6 +22,8 @@ use Rattle.transcript.specs.Chunks.{Mid, mid, step, said, fed, says, ends, last
 use Rattle.transcript.specs.Code.{runOf, midOf, between, Moves, Feeds}
 use Rattle.transcript.specs.declared.run.Run as code
 use Rattle.transcript.specs.declared.run.Turned.{Turned}
+use Rattle.script.specs.Fields.{upTo}
+use Rattle.transcript.proofs.Turning.{piece, piece-feed}
 use Rattle.transcript.proofs.Chunk.{between-on}
 use Rattle.transcript.proofs.Feeding.{feeds-move, ends-closed}
 use Rattle.runner.specs.Shown.{lineShown, shownOf, shown, shows, closes, OpenShown}
@@ -112,49 +113,34 @@ line-ends-byte b = go (eqb b lineFeed)
     go true = omega arith
     go false = omega arith
 
-line-ends-other : (b : ℕ) → (b ≡ lineFeed → ⊥) → lineEnds (b ∷ []) ≡ 0
-unfolding lineEnds
-line-ends-other b n = rw (ne-eqb b lineFeed n) refl
+-- none ends before the first line feed
+line-ends-before : (y : List ℕ) → lineEnds (upTo lineFeed y) ≡ 0
+unfolding lineEnds upTo
+line-ends-before [] = refl
+line-ends-before (b ∷ y) = go (eqb b lineFeed) refl (line-ends-before y)
+  where
+    go : (f : Bool) → eqb b lineFeed ≡ f → lineEnds (upTo lineFeed y) ≡ 0 → lineEnds (cond f [] (b ∷ upTo lineFeed y)) ≡ 0
+    go true e h = refl
+    go false e h = rw e h
 
-between-more : (l : List ℕ) (from i : ℕ) → from ≤ i → i < length l → between from (i + 1) l ≡ between from i l ++ (getD l i 0 ∷ [])
-between-more l from i h w =
-    ap (drop from) (rw add-one (take-suc l i 0 w)) ∙ drop-append-le from (take i l) (getD l i 0 ∷ []) (omega (arith, length-take-le i l (omega arith)))
-
--- no line ends in the part of the chunk so far
-pub record NoLine (chunk : List ℕ) (from i : ℕ) : Type 0 where
-  pub onward : from ≤ i
-  pub inside : i ≤ length chunk
-  pub none : lineEnds (between from i chunk) ≡ 0
-
-pub no-line : (chunk : List ℕ) (from : ℕ) → from < length chunk → NoLine chunk from from
-unfolding lineEnds
-no-line chunk from h = record { onward = omega arith; inside = omega arith; none = ap lineEnds (slice-empty from chunk) }
-
-module _ {chunk : List ℕ} {from i : ℕ} (g : NoLine chunk from i) where
-  pub no-line-more : i < length chunk → (getD chunk i 0 ≡ lineFeed → ⊥) → NoLine chunk from (i + 1)
-  no-line-more h n =
+-- the part that ends behind the next line feed, or at the chunk's end
+module _ {tables : Bool} {chunk : List ℕ} {from e : ℕ} (h : from < length chunk) (q : e ≡ from + length (upTo lineFeed (drop from chunk))) where
+  pub line-part : e < length chunk → Part tables chunk from (e + 1)
+  line-part w =
       record {
-        onward = omega (arith, g .onward);
-        inside = omega arith;
-        none = ap lineEnds (between-more chunk from i (g .onward) h) ∙ line-ends-more (between from i chunk) (getD chunk i 0) ∙ omega (arith, g .none, line-ends-other (getD chunk i 0) n);
-      }
-
-  pub line-ended : {tables : Bool} → i < length chunk → Part tables chunk from (i + 1)
-  line-ended h =
-      record {
-        onward = omega (arith, g .onward);
+        onward = omega (arith, q);
         inside = omega arith;
         one = λ _. omega (
           arith,
-          ap lineEnds (between-more chunk from i (g .onward) h),
-          line-ends-more (between from i chunk) (getD chunk i 0),
-          g .none,
-          line-ends-byte (getD chunk i 0),
+          ap lineEnds (piece-feed from e chunk (omega arith) q w),
+          line-ends-more (upTo lineFeed (drop from chunk)) lineFeed,
+          line-ends-before (drop from chunk),
+          line-ends-byte lineFeed,
         );
       }
 
-  pub chunk-ended : {tables : Bool} → from < length chunk → length chunk ≤ i → Part tables chunk from i
-  chunk-ended w h = record { onward = omega arith; inside = g .inside; one = λ _. omega (arith, g .none) }
+  pub rest-part : e ≡ length chunk → Part tables chunk from e
+  rest-part w = record { onward = omega arith; inside = omega arith; one = λ _. omega (arith, ap lineEnds (piece from e chunk (omega arith) q), line-ends-before (drop from chunk)) }
 
 -- ---- what is printed where no line is read, and where one is
 

@@ -1,5 +1,6 @@
 // A part of a chunk: as many lines as it has, or one where tables are to stand behind its answer.
 use listing::put_tables;
+use script::up_to;
 use transcript::Run;
 use transcript::Turned;
 use transcript::feed_within;
@@ -19,14 +20,11 @@ fn part_end(tables: bool, chunk: &[u8], from: usize) -> usize
     if !tables {
         return chunk.len();
     }
-    let mut i = from;
-    while i < chunk.len() {
-        if chunk[i] == b'\n' {
-            return i + 1;
-        }
-        i = i + 1;
+    let end = up_to(chunk, b'\n', from);
+    if end < chunk.len() {
+        return end + 1;
     }
-    i
+    end
 }
 
 // The lines that end in the part are answered, and what it has of the next one is carried. The one call of feed_within in a

@@ -1,17 +1,17 @@
 // The fields of a line, each a part of it.
 ghost use mathlib.Core.Path.{_≡_};
 ghost use Prim.Native.Nat.{_+_, _≤_};
-ghost use lib.ListN.{length};
-ghost use Rattle.script.specs.Fields.{fieldAt};
+ghost use lib.ListN.{length, drop};
+ghost use Rattle.script.specs.Fields.{upTo, fieldAt};
 
-// Where the field that starts at a ends: at the next tab, or at the line's end.
-fn field_end(line: &[u8], a: usize) -> usize
-    requires { ⌜ a ≤ length (now line) ⌝ }
-    ensures { λ r. ⌜ (r ≡ a + length (fieldAt (now (line .entry)) a)) × (r ≤ length (now (line .entry))) ⌝ }
+// Where the part of a text that starts at a ends: at the next d, or at the text's end.
+pub fn up_to(text: &[u8], d: u8, a: usize) -> usize
+    requires { ⌜ a ≤ length (now text) ⌝ }
+    ensures { λ r. ⌜ (r ≡ a + length (upTo d (drop a (now (text .entry))))) × (r ≤ length (now (text .entry))) ⌝ }
 {
     let mut i = a;
-    while i < line.len() {
-        if line[i] == b'\t' {
+    while i < text.len() {
+        if text[i] == d {
             return i;
         }
         i = i + 1;
@@ -24,6 +24,6 @@ pub(crate) fn field(line: &[u8], a: usize) -> &[u8]
     requires { ⌜ a ≤ length (now line) ⌝ }
     ensures { λ r. ⌜ now r ≡ fieldAt (now (line .entry)) a ⌝ }
 {
-    let e = field_end(line, a);
+    let e = up_to(line, b'\t', a);
     &line[a..e]
 }

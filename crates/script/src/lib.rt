@@ -6,6 +6,7 @@ mod outcome;
 mod print;
 mod words;
 
+pub use field::up_to;
 pub use line::Line;
 pub use line::read_line;
 pub use print::EVENT_ROOM;

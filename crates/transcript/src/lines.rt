@@ -1,32 +1,15 @@
-// The lines of a chunk: where one ends, what is carried of one that is not whole, and how it reads.
+// The lines of a chunk: what is carried of one that is not whole, and how it reads.
 use script::Line;
 use script::read_line;
 ghost use mathlib.Core.Path.{_≡_};
 ghost use mathlib.Core.List.{_++_};
-ghost use Prim.Native.Nat.{_+_, _≤_};
-ghost use lib.ListN.{length, take, drop};
-ghost use Rattle.script.specs.Fields.{upTo};
+ghost use Prim.Native.Nat.{_≤_};
+ghost use lib.ListN.{length, take};
 ghost use Rattle.script.specs.Lines.{lineOf};
-ghost use Rattle.transcript.specs.Lines.{lineFeed};
 ghost use Rattle.transcript.specs.Chunks.{carrySize};
 
 // The bytes that are carried of a line: one more than a line may have tells that it is too long.
 pub const CARRY: usize = 41;
-
-// Where the line that starts at from ends: at the next line feed, or at the chunk's end.
-pub(crate) fn line_end(chunk: &[u8], from: usize) -> usize
-    requires { ⌜ from ≤ length (now chunk) ⌝ }
-    ensures { λ r. ⌜ (r ≡ from + length (upTo lineFeed (drop from (now (chunk .entry))))) × (r ≤ length (now (chunk .entry))) ⌝ }
-{
-    let mut i = from;
-    while i < chunk.len() {
-        if chunk[i] == b'\n' {
-            return i;
-        }
-        i = i + 1;
-    }
-    i
-}
 
 // The part goes behind what is carried, as far as there is room.
 pub(crate) fn keep(carry: &mut [u8], have: usize, part: &[u8]) -> usize

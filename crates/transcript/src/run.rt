@@ -1,6 +1,5 @@
 // A script's run over a chunk, line by line, and its end.
 use crate::lines::keep;
-use crate::lines::line_end;
 use crate::lines::line_of;
 use answers::ANSWER_ROOM;
 use answers::put_answer;
@@ -8,6 +7,7 @@ use detector::Detector;
 use detector::Event;
 use detector::Reply;
 use script::Line;
+use script::up_to;
 ghost use mathlib.Core.Path.{_≡_};
 ghost use Prim.Native.Nat.{_≤_};
 ghost use lib.ListN.{length};
@@ -86,7 +86,7 @@ pub fn feed_within(
                 at: to,
             };
         }
-        let end = line_end(chunk, i);
+        let end = up_to(chunk, b'\n', i);
         if end == chunk.len() {
             let k = keep(carry, h, &chunk[i..end]);
             return Turned {

@@ -9,8 +9,8 @@ use Rattle.script.specs.Fields.{tab, upTo, fieldAt}
 use Rattle.script.proofs.field.field.Statement.{statement}
 use Rattle.script.proofs.field.field.Tie as tie
 
-field-end-requires : tie.Need-field-end-requires
-field-end-requires c κs = search needs
+up-to-requires : tie.Need-up-to-requires
+up-to-requires c κs = search needs
 
 sub-result : tie.Need-sub-result
 sub-result c = search needs
@@ -26,9 +26,9 @@ unfolding fieldAt
 returns c =
     let l : List ℕ = c .before .before .before .args .line .now in
     let a : ℕ = c .before .before .before .args .a in
-    let h : c .before .field-end .result - a ≡ length (upTo tab (drop a l)) = omega arith in
+    let h : c .before .up-to .result - a ≡ length (upTo tab (drop a l)) = omega arith in
     ap (λ (k : ℕ). take k (drop a l)) h ∙ take-upTo tab (drop a l)
 
 pub field-spec : {M : Type 1} → statement M
 field-spec =
-    tie.close (tie.spec field-end-requires sub-result part-result-start part-result-end returns)
+    tie.close (tie.spec up-to-requires sub-result part-result-start part-result-end returns)

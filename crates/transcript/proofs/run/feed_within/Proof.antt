@@ -59,17 +59,17 @@ returns-2 c =
     let v = c .before .before .before .loop .inv in
     goes-done (v .0) (omega (arith, v .4, v .6)) (λ h k. omega (arith, c .if2 .taken, v .4, v .6))
 
-line-end-requires : tie.Need-line-end-requires Inv-loop μ-loop
-line-end-requires c κs = c .before .before .before .loop .inv .0 .moves .inside
+up-to-requires : tie.Need-up-to-requires Inv-loop μ-loop
+up-to-requires c κs = c .before .before .before .loop .inv .0 .moves .inside
 
 sub-keep : tie.Need-sub-keep Inv-loop μ-loop
-sub-keep c = omega (arith, c .before .before .line-end .ensures)
+sub-keep c = omega (arith, c .before .before .up-to .ensures)
 
 part-keep-start : tie.Need-part-keep-start Inv-loop μ-loop
-part-keep-start c = omega (arith, c .before .before .line-end .ensures)
+part-keep-start c = omega (arith, c .before .before .up-to .ensures)
 
 part-keep-end : tie.Need-part-keep-end Inv-loop μ-loop
-part-keep-end c = omega (arith, c .before .before .line-end .ensures)
+part-keep-end c = omega (arith, c .before .before .up-to .ensures)
 
 keep-requires : tie.Need-keep-requires Inv-loop μ-loop
 keep-requires c κs = (c .before .before .before .before .before .before .before .loop .inv .0 .moves .kept .long, c .before .before .before .before .before .before .before .loop .inv .0 .moves .kept .have)
@@ -88,18 +88,18 @@ returns-3 c =
     let v = c .before .before .before .before .before .before .before .before .before .before .loop .inv in
     let k = c .before .before .keep in
     goes-done
-    (goes-on (v .0) (carried-turn _ _ _ _ _ _ _ _ _ (v .0 .moves .kept) (omega (arith, v .0 .moves .kept .lines, c .before .before .before .before .before .before .before .before .if1 .left)) (c .before .before .before .before .before .before .before .before .before .loop-test .taken) (c .before .before .before .before .before .before .line-end .ensures) (c .before .before .before .before .before .if3 .taken) (k .kept .0) (k .ensures)))
+    (goes-on (v .0) (carried-turn _ _ _ _ _ _ _ _ _ (v .0 .moves .kept) (omega (arith, v .0 .moves .kept .lines, c .before .before .before .before .before .before .before .before .if1 .left)) (c .before .before .before .before .before .before .before .before .before .loop-test .taken) (c .before .before .before .before .before .before .up-to .ensures) (c .before .before .before .before .before .if3 .taken) (k .kept .0) (k .ensures)))
     (omega (arith, v .4, v .6))
     (λ h k. absurd (omega (arith, h, c .before .before .before .before .before .if3 .taken)))
 
 sub-line-of : tie.Need-sub-line-of Inv-loop μ-loop
-sub-line-of c = omega (arith, c .before .before .line-end .ensures)
+sub-line-of c = omega (arith, c .before .before .up-to .ensures)
 
 part-line-of-start : tie.Need-part-line-of-start Inv-loop μ-loop
-part-line-of-start c = omega (arith, c .before .before .line-end .ensures)
+part-line-of-start c = omega (arith, c .before .before .up-to .ensures)
 
 part-line-of-end : tie.Need-part-line-of-end Inv-loop μ-loop
-part-line-of-end c = omega (arith, c .before .before .line-end .ensures)
+part-line-of-end c = omega (arith, c .before .before .up-to .ensures)
 
 line-of-requires : tie.Need-line-of-requires Inv-loop μ-loop
 line-of-requires c κs = (c .before .before .before .before .before .before .before .loop .inv .0 .moves .kept .long, c .before .before .before .before .before .before .before .loop .inv .0 .moves .kept .have)
@@ -324,10 +324,10 @@ chunk-fits : (c : tie.Start Inv-loop μ-loop) → length (c .args .chunk .now) <
 chunk-fits c = search needs
 
 add-i : tie.Need-add-i Inv-loop μ-loop
-add-i c = omega (arith, c .before .before .before .before .before .before .before .before .before .before .before .before .line-end .ensures .1, c .before .before .before .before .before .before .before .before .before .before .before .if3 .left, c .before .before .before .before .before .before .before .before .before .before .before .before .before .before .before .loop-test .taken, chunk-fits (c .before .before .before .before .before .before .before .before .before .before .before .before .before .before .before .before .before .before .before .before .before .before))
+add-i c = omega (arith, c .before .before .before .before .before .before .before .before .before .before .before .before .up-to .ensures .1, c .before .before .before .before .before .before .before .before .before .before .before .if3 .left, c .before .before .before .before .before .before .before .before .before .before .before .before .before .before .before .loop-test .taken, chunk-fits (c .before .before .before .before .before .before .before .before .before .before .before .before .before .before .before .before .before .before .before .before .before .before))
 
 loop-less : tie.Need-loop-less Inv-loop μ-loop
-loop-less c = omega (arith, c .before .before .before .before .before .before .before .before .before .before .before .before .before .before .before .loop-test .taken, c .before .before .before .before .before .before .before .before .before .before .before .before .line-end .ensures)
+loop-less c = omega (arith, c .before .before .before .before .before .before .before .before .before .before .before .before .before .before .before .loop-test .taken, c .before .before .before .before .before .before .before .before .before .before .before .before .up-to .ensures)
 
 loop-again : tie.Need-loop-again Inv-loop μ-loop
 loop-again c =
@@ -335,7 +335,7 @@ loop-again c =
     let v = l .inv in
     let m = met (c .before .before .before .before .before) in
     let p = c .before .before .put-answer in
-    let f = c .before .before .before .before .before .before .before .before .before .before .before .before .line-end in
+    let f = c .before .before .before .before .before .before .before .before .before .before .before .before .up-to in
     let r = c .before .before .before .before .before .before .before .before .line-of in
     let t = told-line _ _ _ _ (omega (arith, v .0 .moves .kept .lines)) (m .bytes) (m .results) _ _ _ _ (p .ensures) in (
       goes-on (v .0)
@@ -379,7 +379,7 @@ feed-within-spec =
     same-length-5
     same-length-6
     returns-2
-    line-end-requires
+    up-to-requires
     sub-keep
     part-keep-start
     part-keep-end
