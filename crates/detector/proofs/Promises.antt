@@ -1,33 +1,33 @@
 -- How an event's promise follows from what its parts promise.
 use mathlib.Core.Path.{_≡_, refl, sym, ap, _∙_, subst}
 use mathlib.Core.List.{List}
-use mathlib.Core.Bool.{true, false, not, cond, true≢false, false≢true}
-use Prim.Native.Nat.{ℕ, zero, suc, _+_, _-_, _<_}
+use mathlib.Core.Bool.{true, false, cond, true≢false, false≢true}
+use Prim.Native.Nat.{ℕ, zero, suc, _-_, _<_}
 use native.Mathlib.Omega.{arith}
 use lib.ListN.{length, getD, replicate, getD-replicate}
-use lib.Seq.{getD-set-same}
-use lib.Dec.{eqb, lit<, lit≤}
-use borrow.Author.Tests.{not-false, eqb-true, eq-eqb}
-use Rattle.waits.specs.Tables.{InRange, waitersOf}
-use Rattle.waits.specs.Report.{Said, quiet, written}
+use lib.Seq.{set-getD, getD-set-same}
+use lib.Dec.{lit<, lit≤}
+use borrow.Author.Tests.{eq-eqb}
+use Rattle.waits.specs.Tables.{InRange, waitersOf, ownerOf, writerOf, own, write}
+use Rattle.waits.specs.Report.{Said, written}
 use Rattle.waits.specs.Attempt.{settle}
 use Rattle.waits.specs.Code.{Tells}
 use Rattle.waits.specs.declared.tables.Waits.{Waits}
 use Rattle.waits.specs.declared.tables.Told.{Told}
 use Rattle.waits.specs.declared.outcome.Outcome.{Outcome}
 use Rattle.waits.specs.declared.outcome.Outcome.the-variants.{Took, Blocked, Hinted}
-use Rattle.waits.proofs.Telling.{laid-none, laid-length, settle-idle}
+use Rattle.waits.proofs.Telling.{retell, hush-tells, laid-none, laid-length, settle-idle}
 use Rattle.detector.specs.Tables.{Tables, Answer, noPair, noWait, blankWait, withWaits, withCounts, silent, said}
-use Rattle.detector.specs.Mutex.{completeAcquire, acquireSlow, mutexAttempt}
-use Rattle.detector.specs.RwLock.{countUp, countDown, completeRead, acquireRead, readAttempt, completeWrite, acquireWrite, writeAttempt}
+use Rattle.detector.specs.Mutex.{acquireSlow, mutexAttempt}
+use Rattle.detector.specs.RwLock.{countDown, acquireRead, readAttempt, acquireWrite, writeAttempt}
 use Rattle.waits.specs.Owners.{place, countOf}
-use Rattle.detector.specs.Refusals.{fullCount, fullAttempt}
+use Rattle.detector.specs.Refusals.{fullCount}
 use Rattle.detector.specs.State.{tables, blankQueue, Queued, Waiting, Valid, Does}
 use Rattle.waits.specs.Tables as waiting
 use Rattle.waits.proofs.Laws.{range-empty}
 use Rattle.detector.specs.declared.state.Queue.{Queue}
 use Rattle.detector.specs.declared.state.Rest.{Rest}
-use Rattle.detector.specs.Code.{emptyQueue, putWaits, putCounts, blocked, triedMutex, triedRead, triedWrite, mustLook, lookedMutex, lookedWrite}
+use Rattle.detector.specs.Code.{emptyQueue, putWaits, putCounts, blocked, hinted}
 use Rattle.detector.specs.declared.state.Detector.{Detector}
 use Rattle.detector.specs.declared.reply.Done.{Done}
 
@@ -72,58 +72,44 @@ does-counts d r w c q v s b =
     subst (λ (x : Done). Does x b b (silent (withCounts (tables d) w c))) (sym q)
     (record { state = refl; count = refl; bytes = sym (laid-none b 0); valid = valid-counts d w c v s })
 
--- ---- a look that is not needed tells nothing
+-- ---- a lock was taken that nobody awaits: nothing to tell
 
-pub unneeded : (c : List ℕ) (w : Waits) (l : ℕ) → waitersOf w l ≡ 0 → quiet w ≡ settle c w l
-unneeded c w l e = sym (settle-idle c w l e)
-
-took-alone : (w : Waits) (l : ℕ) → not (eqb (waitersOf w l) 0) ≡ false → waitersOf w l ≡ 0
-took-alone w l e = eqb-true (waitersOf w l) 0 (not-false (eqb (waitersOf w l) 0) e)
-
-pub mutex-unneeded : (c : List ℕ) (w : Waits) (t l : ℕ) (o : Outcome) → mustLook w l o ≡ false → quiet w ≡ lookedMutex c w t l o
-mutex-unneeded c w t l Took e = unneeded c w l (took-alone w l e)
-mutex-unneeded c w t l Blocked e = absurd (true≢false e)
-mutex-unneeded c w t l (Hinted o) e = absurd (true≢false e)
-
-pub write-unneeded : (c : List ℕ) (w : Waits) (t l : ℕ) (o : Outcome) → mustLook w l o ≡ false → quiet w ≡ lookedWrite c w t l o
-write-unneeded c w t l Took e = unneeded c w l (took-alone w l e)
-write-unneeded c w t l Blocked e = absurd (true≢false e)
-write-unneeded c w t l (Hinted o) e = absurd (true≢false e)
+pub idle-tells : (c : List ℕ) (w : Waits) (l : ℕ) (r : Told) (b : List ℕ) → r ≡ record { waits = w; reports = 0; used = 0 } → InRange w → waitersOf w l ≡ 0 → Tells r b b 0 (settle c w l)
+idle-tells c w l r b e s z = retell (sym (settle-idle c w l z)) (hush-tells r w 0 b e s)
 
 -- ---- the rules by how the try came out
 
-pub mutex-looked : (x : Tables) (t l : ℕ) (o : Outcome) → said x (lookedMutex (x .«rwlock_readers») (triedMutex (x .waits) t l o) t l o) ≡ mutexAttempt x t l o
-unfolding completeAcquire acquireSlow
-mutex-looked x t l Took = refl
-mutex-looked x t l Blocked = refl
-mutex-looked x t l (Hinted o) = refl
+pub as-taken : {A : Type 0} (F : Outcome → A) (o : Outcome) → blocked o ≡ false → F Took ≡ F o
+as-taken F Took e = refl
+as-taken F Blocked e = absurd (true≢false e)
+as-taken F (Hinted o) e = absurd (true≢false e)
 
-pub write-looked : (x : Tables) (t l : ℕ) (o : Outcome) → said x (lookedWrite (x .«rwlock_readers») (triedWrite (x .waits) t l o) t l o) ≡ writeAttempt x t l o
-unfolding completeWrite acquireWrite
-write-looked x t l Took = refl
-write-looked x t l Blocked = refl
-write-looked x t l (Hinted o) = refl
+as-hinted : {A : Type 0} (F : Outcome → A) (G : ℕ → A) (b : ℕ) → G b ≡ F Blocked → ((h : ℕ) → G h ≡ F (Hinted h)) → (o : Outcome) → blocked o ≡ true → G (hinted b o) ≡ F o
+as-hinted F G b p q Took e = absurd (false≢true e)
+as-hinted F G b p q Blocked e = p
+as-hinted F G b p q (Hinted h) e = q h
 
-pub read-blocked : (x : Tables) (t l : ℕ) (o : Outcome) → blocked o ≡ true → acquireRead x (triedRead (x .waits) t l o) t l ≡ readAttempt x t l o
-read-blocked x t l Took e = absurd (false≢true e)
-read-blocked x t l Blocked e = refl
-read-blocked x t l (Hinted o) e = refl
+-- an owner, or a writer, that is written again
+own-same : (w : Waits) (l : ℕ) → own w l (ownerOf w l) ≡ w
+own-same w l = rw (set-getD (w .«mutex_owners») l 0)
 
-pub read-took : (x : Tables) (t l : ℕ) (o : Outcome) → blocked o ≡ false → silent (withCounts x (triedRead (x .waits) t l o) (countUp (x .«rwlock_readers») l t)) ≡ readAttempt x t l o
-unfolding completeRead
-read-took x t l Took e = refl
-read-took x t l Blocked e = absurd (true≢false e)
-read-took x t l (Hinted o) e = absurd (true≢false e)
+write-same : (w : Waits) (l : ℕ) → write w l (writerOf w l) ≡ w
+write-same w l = rw (set-getD (w .«rwlock_writer») l 0)
+
+module _ (x : Tables) (t l : ℕ) where
+  pub mutex-blocked : (o : Outcome) → blocked o ≡ true → acquireSlow x (own (x .waits) l (hinted (ownerOf (x .waits) l) o)) t l ≡ mutexAttempt x t l o
+  mutex-blocked = as-hinted (mutexAttempt x t l) (λ h. acquireSlow x (own (x .waits) l h) t l) _ (ap (λ w. acquireSlow x w t l) (own-same (x .waits) l)) (λ h. refl)
+
+  pub read-blocked : (o : Outcome) → blocked o ≡ true → acquireRead x (write (x .waits) l (hinted (writerOf (x .waits) l) o)) t l ≡ readAttempt x t l o
+  read-blocked = as-hinted (readAttempt x t l) (λ h. acquireRead x (write (x .waits) l h) t l) _ (ap (λ w. acquireRead x w t l) (write-same (x .waits) l)) (λ h. refl)
+
+  pub write-blocked : (o : Outcome) → blocked o ≡ true → acquireWrite x (write (x .waits) l (hinted (writerOf (x .waits) l) o)) t l ≡ writeAttempt x t l o
+  write-blocked = as-hinted (writeAttempt x t l) (λ h. acquireWrite x (write (x .waits) l h) t l) _ (ap (λ w. acquireWrite x w t l) (write-same (x .waits) l)) (λ h. refl)
 
 -- ---- a count that may rise
 
 pub not-full : (x : Tables) (t l : ℕ) → fullCount x t l ≡ 0 → countOf (x .«rwlock_readers») l t ≡ 255 → ⊥
 not-full x t l e q = omega (arith, sym (ap (λ b. cond b 8 0) (eq-eqb (countOf (x .«rwlock_readers») l t) 255 q)) ∙ e)
-
-pub read-count : (x : Tables) (t l : ℕ) (o : Outcome) → blocked o ≡ false → fullAttempt x t l o ≡ 0 → fullCount x t l ≡ 0
-read-count x t l Took e f = f
-read-count x t l Blocked e f = absurd (true≢false e)
-read-count x t l (Hinted o) e f = absurd (true≢false e)
 
 -- the count after it fell
 pub count-down-at : (c : List ℕ) (l t : ℕ) → place l t < length c → countOf (countDown c l t) l t ≡ countOf c l t - 1

@@ -1,17 +1,14 @@
 -- What the events do to the waits keeps them in range.
 use mathlib.Core.List.{List}
 use mathlib.Core.Bool.{Bool, true, false, cond}
-use Prim.Native.Nat.{ℕ, _<_}
-use native.Mathlib.Omega.{arith}
+use Prim.Native.Nat.{ℕ}
 use lib.Dec.{eqb, lit≤}
 use Rattle.sets.proofs.Below.{each-keeps}
-use Rattle.waits.specs.Tables.{InRange, intentOf, ownerOf, writerOf, withHolds, own, write, unhold}
-use Rattle.waits.specs.Waiting.{clear}
-use Rattle.waits.specs.Validate.{names}
+use Rattle.waits.specs.Tables.{InRange, ownerOf, writerOf, withHolds, own, write, unhold}
 use Rattle.waits.specs.declared.tables.Waits.{Waits}
 use Rattle.waits.proofs.Laws.{range-own, range-write, range-clear, range-graph}
-use Rattle.detector.specs.Mutex.{acquired, released, clearNaming, unholdAll, purge}
-use Rattle.detector.specs.RwLock.{written, unwritten, loosen}
+use Rattle.detector.specs.Mutex.{gain, released, unholdAll, purge}
+use Rattle.detector.specs.RwLock.{unwritten, loosen}
 
 range-holds : (w : Waits) (h : List ℕ) → InRange w → InRange (withHolds w h)
 range-holds w h s = record { locks = s .locks; owner = s .owner; writer = s .writer }
@@ -20,17 +17,12 @@ range-cond : (b : Bool) (v w : Waits) → InRange v → InRange w → InRange (c
 range-cond true v w p q = p
 range-cond false v w p q = q
 
-pub range-acquired : (w : Waits) (t l : ℕ) → t < 32 → InRange w → InRange (acquired w t l)
-unfolding acquired
-range-acquired w t l h s = range-clear _ t (range-holds (own w l t) _ (range-own w l t (omega arith) s))
+pub range-gain : (w : Waits) (t l : ℕ) → InRange w → InRange (gain w t l)
+range-gain w t l s = range-clear _ t (range-holds w _ s)
 
 pub range-released : (w : Waits) (t l : ℕ) → InRange w → InRange (released w t l)
 unfolding released
 range-released w t l s = range-holds _ _ (range-cond (eqb (ownerOf w l) t) (own w l 32) w (range-own w l 32 (lit≤ tt) s) s)
-
-pub range-written : (w : Waits) (t l : ℕ) → t < 32 → InRange w → InRange (written w t l)
-unfolding written
-range-written w t l h s = range-clear _ t (range-holds (write w l t) _ (range-write w l t (omega arith) s))
 
 pub range-unwritten : (w : Waits) (t l : ℕ) → InRange w → InRange (unwritten w t l)
 unfolding unwritten

@@ -14,8 +14,11 @@ use Rattle.waits.specs.declared.outcome.Outcome.the-variants.{Took, Blocked, Hi
 use Rattle.detector.specs.Tables.{Tables, Answer, withWaits, silent, said}
 
 -- mc t l: owner is t; l joins t's holds; clear t; refresh l; validate a path
+abbrev pub gain : Waits → ℕ → ℕ → Waits
+gain w t l = clear (hold w t l) t
+
 unfoldable pub acquired : Waits → ℕ → ℕ → Waits
-acquired w t l = clear (hold (own w l t) t l) t
+acquired w t l = gain (own w l t) t l
 
 unfoldable pub completeAcquire : Tables → ℕ → ℕ → Answer
 completeAcquire x t l = said x (settle (x .«rwlock_readers») (acquired (x .waits) t l) l)

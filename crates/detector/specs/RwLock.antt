@@ -7,7 +7,7 @@ use lib.ListN.{set}
 use Rattle.sets.specs.Sets.{upward}
 use Rattle.sets.specs.Below.{each}
 use Rattle.graph.specs.Graph.{removeEdgesTo}
-use Rattle.waits.specs.Tables.{waitersOf, writerOf, withGraph, write, hold, unhold}
+use Rattle.waits.specs.Tables.{waitersOf, writerOf, withGraph, write, unhold}
 use Rattle.waits.specs.Owners.{place, countOf}
 use Rattle.waits.specs.Waiting.{clear, refresh}
 use Rattle.waits.specs.Attempt.{settle, block, readOn, blockWrite}
@@ -17,7 +17,7 @@ use Rattle.waits.specs.declared.outcome.Outcome.the-variants.{Took, Blocked, Hi
 use Rattle.waits.specs.declared.outcome.Tried.{Tried}
 use Rattle.waits.specs.declared.outcome.Tried.the-variants.{Taken, Missed}
 use Rattle.detector.specs.Tables.{Tables, Answer, withWaits, withCounts, silent, said}
-use Rattle.detector.specs.Mutex.{purge}
+use Rattle.detector.specs.Mutex.{gain, purge}
 
 -- the counts with n for lock l and thread t
 abbrev pub setCount : List ℕ → ℕ → ℕ → ℕ → List ℕ
@@ -62,7 +62,7 @@ releaseRead x t l =
 
 -- wc t l: writer is t; then as mc from the holds on
 unfoldable pub written : Waits → ℕ → ℕ → Waits
-written w t l = clear (hold (write w l t) t l) t
+written w t l = gain (write w l t) t l
 
 unfoldable pub completeWrite : Tables → ℕ → ℕ → Answer
 completeWrite x t l = said x (settle (x .«rwlock_readers») (written (x .waits) t l) l)

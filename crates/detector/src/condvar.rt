@@ -16,6 +16,7 @@ use crate::state::Detector;
 use crate::state::Pair;
 use crate::state::Queue;
 use sets::threads;
+use waits::WaitMode;
 use waits::Waits;
 
 // A walk over a queue: the tables so far, the reports, and the place behind them in the buffer.
@@ -47,7 +48,7 @@ fn wake_one(a: Awake, counts: &[u8; 2048], p: Pair, buf: &mut [u8]) -> Awake
     let l = p.lock as usize;
     let woken = threads::with(a.woken, t);
     if w.mutex_owners[l] < 32 {
-        let d = w.block_mutex(counts, t, l, buf, from);
+        let d = w.attempt(counts, t, l, WaitMode::Mutex, buf, from);
         let waits = d.waits;
         return Awake {
             waits,

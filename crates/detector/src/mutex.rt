@@ -1,23 +1,21 @@
 // The events of a mutex.
 ghost use mathlib.Core.Path.{_≡_};
 ghost use mathlib.Core.List.{List};
-ghost use Prim.Native.Nat.{ℕ, _+_, _<_, _≤_};
+ghost use Prim.Native.Nat.{ℕ, _<_, _≤_};
 ghost use lib.ListN.{length};
 ghost use Rattle.waits.specs.Tables.{InRange, own};
-ghost use Rattle.waits.specs.Report.{reportBytes};
 ghost use Rattle.waits.specs.Validate.{names};
-ghost use Rattle.waits.specs.Code.{Tells};
-ghost use Rattle.detector.specs.Mutex.{acquired, released, clearNaming, purge, mutexAttempt, completeAcquire, releaseMutex, destroyMutex};
+ghost use Rattle.detector.specs.Mutex.{gain, clearNaming, purge, mutexAttempt, completeAcquire, releaseMutex, destroyMutex};
 ghost use Rattle.detector.specs.Refusals.{hintOf, reportRoom};
 ghost use Rattle.detector.specs.State.{tables, Valid, Does};
-ghost use Rattle.detector.specs.Code.{triedMutex, mustLook, lookedMutex};
+ghost use Rattle.detector.specs.Code.{blocked, hinted};
 use crate::reply::Done;
 use crate::state::Detector;
 use sets::locks;
 use waits::Awaits;
 use waits::Outcome;
 use waits::Slot;
-use waits::Told;
+use waits::WaitMode;
 use waits::Waits;
 
 fn owned(mut w: Waits, l: usize, t: usize) -> Waits
@@ -28,49 +26,35 @@ fn owned(mut w: Waits, l: usize, t: usize) -> Waits
     w
 }
 
-// The mutex is t's: owner, holds, and t waits for nothing.
-fn taken(mut w: Waits, t: usize, l: usize) -> Waits
+// l joins t's holds, and t waits for nothing.
+pub(crate) fn gained(mut w: Waits, t: usize, l: usize) -> Waits
     requires { ⌜ InRange w × (t < 32) × (l < 64) ⌝ }
-    ensures { λ r. ⌜ (r ≡ acquired w t l) × InRange r ⌝ }
+    ensures { λ r. ⌜ (r ≡ gain w t l) × InRange r ⌝ }
 {
-    w.mutex_owners[l] = t as u8;
     let holds = w.thread_holds[t];
     w.thread_holds[t] = locks::with(holds, l);
     w.clear_wait_intent(t)
 }
 
-// The tables before anybody's wait is looked at.
-fn tried(w: Waits, t: usize, l: usize, o: Outcome) -> Waits
-    requires { ⌜ InRange w × (t < 32) × (l < 64) × (hintOf o < 32) ⌝ }
-    ensures { λ r. ⌜ (r ≡ triedMutex w t l o) × InRange r ⌝ }
+pub(crate) fn was_blocked(o: Outcome) -> bool
+    ensures { λ r. ⌜ r ≡ blocked o ⌝ }
 {
     match o {
-        Outcome::Took => taken(w, t, l),
-        Outcome::Blocked => w,
-        Outcome::Hinted(h) => owned(w, l, h),
-    }
-}
-
-// A lock that was taken and that nobody awaits needs no look.
-pub(crate) fn must_look(w: Waits, l: usize, o: Outcome) -> bool
-    requires { ⌜ l < 64 ⌝ }
-    ensures { λ r. ⌜ r ≡ mustLook w l o ⌝ }
-{
-    match o {
-        Outcome::Took => w.lock_waiters[l] != 0,
+        Outcome::Took => false,
         Outcome::Blocked => true,
         Outcome::Hinted(_) => true,
     }
 }
 
-fn looked(w: Waits, counts: &[u8; 2048], t: usize, l: usize, o: Outcome, buf: &mut [u8]) -> Told
-    requires { ⌜ InRange w × (t < 32) × (l < 64) × (reportBytes ≤ length (now buf)) ⌝ }
-    ensures { λ r. ⌜ Tells r (now (buf .entry)) (now (buf .exit)) 0 (lookedMutex (now (counts .entry)) w t l o) ⌝ }
+// The owner, or the writer, after a hint. A number and not the tables, so that the compiler copies none for an outcome.
+pub(crate) fn hinted(before: usize, o: Outcome) -> usize
+    requires { ⌜ (before ≤ 32) × (hintOf o < 32) ⌝ }
+    ensures { λ r. ⌜ (r ≡ hinted before o) × (r ≤ 32) ⌝ }
 {
     match o {
-        Outcome::Took => w.settle(counts, l, buf, 0),
-        Outcome::Blocked => w.block_mutex(counts, t, l, buf, 0),
-        Outcome::Hinted(_) => w.block_mutex(counts, t, l, buf, 0),
+        Outcome::Took => before,
+        Outcome::Blocked => before,
+        Outcome::Hinted(h) => h,
     }
 }
 
@@ -126,16 +110,23 @@ impl Detector {
         ensures { λ r. ⌜ Does r (now (buf .entry)) (now (buf .exit)) (mutexAttempt (tables self) t l o) ⌝ }
     {
         let w0 = self.waits;
-        let mut w = tried(w0, t, l, o);
-        let mut reports = 0;
-        if must_look(w, l, o) {
+        if was_blocked(o) {
+            let owners = w0.mutex_owners;
+            let before = owners[l] as usize;
+            let h = hinted(before, o);
+            let w = owned(w0, l, h);
             let counts = self.readers();
-            let d = looked(w, &counts, t, l, o, buf);
-            let next = d.waits;
-            w = next;
-            reports = d.reports;
+            let d = w.attempt(&counts, t, l, WaitMode::Mutex, buf, 0);
+            return self.told(d);
         }
-        self.with_waits(w, reports)
+        let a = owned(w0, l, t);
+        let w = gained(a, t, l);
+        let mut d = w.quiet(0);
+        if w.lock_waiters[l] != 0 {
+            let counts = self.readers();
+            d = w.settle(&counts, l, buf, 0);
+        }
+        self.told(d)
     }
 
     // mc
@@ -144,7 +135,8 @@ impl Detector {
         ensures { λ r. ⌜ Does r (now (buf .entry)) (now (buf .exit)) (completeAcquire (tables self) t l) ⌝ }
     {
         let w0 = self.waits;
-        let w = taken(w0, t, l);
+        let a = owned(w0, l, t);
+        let w = gained(a, t, l);
         let mut d = w.quiet(0);
         if w.lock_waiters[l] != 0 {
             let counts = self.readers();

@@ -1,25 +1,24 @@
 // The events of a readers-writer lock.
 ghost use mathlib.Core.Path.{_≡_};
 ghost use mathlib.Core.List.{List};
-ghost use Prim.Native.Nat.{ℕ, _+_, _*_, _<_, _≤_};
-ghost use lib.ListN.{length, getD};
+ghost use Prim.Native.Nat.{ℕ, _<_, _≤_};
+ghost use lib.ListN.{length};
 ghost use Rattle.waits.specs.Tables.{InRange, withGraph, write};
 ghost use Rattle.waits.specs.Owners.{countOf};
-ghost use Rattle.waits.specs.Report.{reportBytes};
-ghost use Rattle.waits.specs.Code.{Tells};
-ghost use Rattle.detector.specs.RwLock.{countUp, countDown, noReaders, written, unwritten, loosen, readAttempt, completeRead, readTry, releaseRead, writeAttempt, completeWrite, releaseWrite, destroyRwLock};
+ghost use Rattle.detector.specs.RwLock.{countUp, countDown, noReaders, unwritten, loosen, readAttempt, completeRead, readTry, releaseRead, writeAttempt, completeWrite, releaseWrite, destroyRwLock};
 ghost use Rattle.detector.specs.Refusals.{hintOf, fullAttempt, fullTry, reportRoom};
 ghost use Rattle.detector.specs.State.{tables, Valid, Does};
-ghost use Rattle.detector.specs.Code.{blocked, triedRead, triedWrite, lookedWrite};
-use crate::mutex::must_look;
+use crate::mutex::gained;
+use crate::mutex::hinted;
 use crate::mutex::purged;
+use crate::mutex::was_blocked;
 use crate::reply::Done;
 use crate::state::Detector;
 use graph::WaitForGraph;
 use sets::locks;
 use waits::Outcome;
-use waits::Told;
 use waits::Tried;
+use waits::WaitMode;
 use waits::Waits;
 use waits::place;
 
@@ -29,17 +28,6 @@ fn written_by(mut w: Waits, l: usize, t: usize) -> Waits
 {
     w.rwlock_writer[l] = t as u8;
     w
-}
-
-// The write lock is t's: writer, holds, and t waits for nothing.
-fn write_taken(mut w: Waits, t: usize, l: usize) -> Waits
-    requires { ⌜ InRange w × (t < 32) × (l < 64) ⌝ }
-    ensures { λ r. ⌜ (r ≡ written w t l) × InRange r ⌝ }
-{
-    w.rwlock_writer[l] = t as u8;
-    let holds = w.thread_holds[t];
-    w.thread_holds[t] = locks::with(holds, l);
-    w.clear_wait_intent(t)
 }
 
 fn write_given_up(mut w: Waits, t: usize, l: usize) -> Waits
@@ -52,56 +40,6 @@ fn write_given_up(mut w: Waits, t: usize, l: usize) -> Waits
     let holds = w.thread_holds[t];
     w.thread_holds[t] = locks::without(holds, l);
     w
-}
-
-fn write_tried(w: Waits, t: usize, l: usize, o: Outcome) -> Waits
-    requires { ⌜ InRange w × (t < 32) × (l < 64) × (hintOf o < 32) ⌝ }
-    ensures { λ r. ⌜ (r ≡ triedWrite w t l o) × InRange r ⌝ }
-{
-    match o {
-        Outcome::Took => write_taken(w, t, l),
-        Outcome::Blocked => w,
-        Outcome::Hinted(h) => written_by(w, l, h),
-    }
-}
-
-fn read_tried(w: Waits, t: usize, l: usize, o: Outcome) -> Waits
-    requires { ⌜ InRange w × (t < 32) × (l < 64) × (hintOf o < 32) ⌝ }
-    ensures { λ r. ⌜ (r ≡ triedRead w t l o) × InRange r ⌝ }
-{
-    match o {
-        Outcome::Took => w.clear_wait_intent(t),
-        Outcome::Blocked => w,
-        Outcome::Hinted(h) => written_by(w, l, h),
-    }
-}
-
-fn was_blocked(o: Outcome) -> bool
-    ensures { λ r. ⌜ r ≡ blocked o ⌝ }
-{
-    match o {
-        Outcome::Took => false,
-        Outcome::Blocked => true,
-        Outcome::Hinted(_) => true,
-    }
-}
-
-fn write_looked(
-    w: Waits,
-    counts: &[u8; 2048],
-    t: usize,
-    l: usize,
-    o: Outcome,
-    buf: &mut [u8],
-) -> Told
-    requires { ⌜ InRange w × (t < 32) × (l < 64) × (reportBytes ≤ length (now buf)) ⌝ }
-    ensures { λ r. ⌜ Tells r (now (buf .entry)) (now (buf .exit)) 0 (lookedWrite (now (counts .entry)) w t l o) ⌝ }
-{
-    match o {
-        Outcome::Took => w.settle(counts, l, buf, 0),
-        Outcome::Blocked => w.block_write(counts, t, l, buf, 0),
-        Outcome::Hinted(_) => w.block_write(counts, t, l, buf, 0),
-    }
 }
 
 // The graph without the edges from l's waiters to t.
@@ -169,12 +107,17 @@ impl Detector {
         ensures { λ r. ⌜ Does r (now (buf .entry)) (now (buf .exit)) (readAttempt (tables self) t l o) ⌝ }
     {
         let w0 = self.waits;
-        let w = read_tried(w0, t, l, o);
-        let counts = self.readers();
         if was_blocked(o) {
-            let d = w.block_read(&counts, t, l, buf, 0);
+            let owners = w0.rwlock_writer;
+            let before = owners[l] as usize;
+            let h = hinted(before, o);
+            let w = written_by(w0, l, h);
+            let counts = self.readers();
+            let d = w.attempt(&counts, t, l, WaitMode::RwRead, buf, 0);
             return self.told(d);
         }
+        let w = w0.clear_wait_intent(t);
+        let counts = self.readers();
         let more = counted_up(counts, t, l);
         self.with_counts(w, more)
     }
@@ -236,16 +179,23 @@ impl Detector {
         ensures { λ r. ⌜ Does r (now (buf .entry)) (now (buf .exit)) (writeAttempt (tables self) t l o) ⌝ }
     {
         let w0 = self.waits;
-        let mut w = write_tried(w0, t, l, o);
-        let mut reports = 0;
-        if must_look(w, l, o) {
+        if was_blocked(o) {
+            let owners = w0.rwlock_writer;
+            let before = owners[l] as usize;
+            let h = hinted(before, o);
+            let w = written_by(w0, l, h);
             let counts = self.readers();
-            let d = write_looked(w, &counts, t, l, o, buf);
-            let next = d.waits;
-            w = next;
-            reports = d.reports;
+            let d = w.attempt(&counts, t, l, WaitMode::RwWrite, buf, 0);
+            return self.told(d);
         }
-        self.with_waits(w, reports)
+        let a = written_by(w0, l, t);
+        let w = gained(a, t, l);
+        let mut d = w.quiet(0);
+        if w.lock_waiters[l] != 0 {
+            let counts = self.readers();
+            d = w.settle(&counts, l, buf, 0);
+        }
+        self.told(d)
     }
 
     // wc
@@ -254,7 +204,8 @@ impl Detector {
         ensures { λ r. ⌜ Does r (now (buf .entry)) (now (buf .exit)) (completeWrite (tables self) t l) ⌝ }
     {
         let w0 = self.waits;
-        let w = write_taken(w0, t, l);
+        let a = written_by(w0, l, t);
+        let w = gained(a, t, l);
         let mut d = w.quiet(0);
         if w.lock_waiters[l] != 0 {
             let counts = self.readers();

@@ -16,12 +16,13 @@ use Rattle.waits.specs.Tables.{intentOf, lockOf, waitersOf, withGraph, I
 use Rattle.waits.specs.Waiting.{Step, register, renewAll, refreshed, refresh, refreshLocks}
 use Rattle.waits.specs.Report.{Report, Said, report, Entry, entryOf, entryBytes, entriesText, bytesOf, written, quiet, saying}
 use Rattle.waits.specs.Validate.{valid, awaitedLocks, checked, validate}
-use Rattle.waits.specs.Attempt.{judgedOf, judged, sievedOf, settle, block, blockMutex, mutexOn, readOn, writeOn, free, blockWrite}
+use Rattle.waits.specs.Attempt.{judgedOf, judged, sievedOf, settle, block, blockMutex, mutexOn, readOn, writeOn, free, blockWrite, blockFor}
 use Rattle.waits.specs.Code.{told, laid, freeFor, sievedFor, attemptFor, Tells}
 use Rattle.waits.specs.declared.tables.Waits.{Waits}
 use Rattle.waits.specs.declared.tables.Linked.{Linked}
 use Rattle.waits.specs.declared.tables.Told.{Told}
 use Rattle.waits.specs.declared.intent.WaitIntent.{WaitIntent}
+use Rattle.waits.specs.declared.intent.WaitMode.{WaitMode}
 use Rattle.waits.specs.declared.intent.WaitMode.the-variants.{Mutex, RwRead, RwWrite}
 use Rattle.waits.proofs.Masks.{next-of, done-of}
 
@@ -181,17 +182,25 @@ pub attempt-told : (c : List ℕ) (w : Waits) (t : ℕ) (i : WaitIntent) (k : Li
 attempt-told c w t i k e f = found-told (sievedFor (i .mode) c) (register c w t i) k e ∙ rw f
 
 module _ (c : List ℕ) (w : Waits) (t l : ℕ) where
-  pub attempt-mutex : attemptFor c w t (mutexOn l) ≡ blockMutex c w t l
+  attempt-mutex : attemptFor c w t (mutexOn l) ≡ blockMutex c w t l
   unfolding blockMutex
   attempt-mutex = let s = register c w t (mutexOn l) in sieved-mutex c (s .waits) (s .found)
 
-  pub attempt-read : attemptFor c w t (readOn l) ≡ block c w t (readOn l)
+  attempt-read : attemptFor c w t (readOn l) ≡ block c w t (readOn l)
   unfolding block
   attempt-read = let s = register c w t (readOn l) in judged-read c (s .waits) (s .found)
 
-  pub attempt-write : attemptFor c w t (writeOn l) ≡ blockWrite c w t l
+  attempt-write : attemptFor c w t (writeOn l) ≡ blockWrite c w t l
   unfolding blockWrite block
   attempt-write = let s = register c w t (writeOn l) in ap (cond (free c w l) (quiet w)) (judged-write c (s .waits) (s .found))
+
+  pub attempt-for : (m : WaitMode) → attemptFor c w t (record { «lock_id» = l; mode = m }) ≡ blockFor m c w t l
+  attempt-for Mutex = attempt-mutex
+  attempt-for RwRead = attempt-read
+  attempt-for RwWrite = attempt-write
+
+  pub attempt-free : (m : WaitMode) → freeFor m c w l ≡ true → quiet w ≡ blockFor m c w t l
+  attempt-free m e = rw e at (attempt-for m)
 
 -- ---- nobody waits: nothing to refresh, nothing to tell
 

@@ -11,6 +11,7 @@ use Rattle.waits.specs.Report.{Said, quiet}
 use Rattle.waits.specs.Validate.{validate}
 use Rattle.waits.specs.declared.tables.Waits.{Waits}
 use Rattle.waits.specs.declared.intent.WaitIntent.{WaitIntent}
+use Rattle.waits.specs.declared.intent.WaitMode.{WaitMode}
 use Rattle.waits.specs.declared.intent.WaitMode.the-variants.{Mutex, RwRead, RwWrite}
 
 -- validate a path
@@ -57,3 +58,9 @@ free c w l = cond (unread c l) (eqb (writerOf w l) 32) false
 
 unfoldable pub blockWrite : List ℕ → Waits → ℕ → ℕ → Said
 blockWrite c w t l = cond (free c w l) (quiet w) (block c w t (writeOn l))
+
+-- a blocked try, by its mode
+abbrev pub blockFor : WaitMode → List ℕ → Waits → ℕ → ℕ → Said
+blockFor Mutex c w t l = blockMutex c w t l
+blockFor RwRead c w t l = block c w t (readOn l)
+blockFor RwWrite c w t l = blockWrite c w t l

@@ -4,9 +4,9 @@ ghost use Prim.Native.Nat.{_+_, _<_, _≤_};
 ghost use lib.ListN.{length};
 ghost use Rattle.graph.specs.Code.{Fit, foundIn, listOf};
 ghost use Rattle.waits.specs.Tables.{InRange};
-ghost use Rattle.waits.specs.Attempt.{judgedOf, settle, block, blockMutex, readOn, free, blockWrite};
+ghost use Rattle.waits.specs.Attempt.{judgedOf, settle, free, blockFor};
 ghost use Rattle.waits.specs.Report.{reportBytes};
-ghost use Rattle.waits.specs.Code.{freeFor, passesFor, attemptFor, Tells};
+ghost use Rattle.waits.specs.Code.{freeFor, passesFor, Tells};
 use crate::intent::WaitIntent;
 use crate::intent::WaitMode;
 use crate::tables::Told;
@@ -93,17 +93,20 @@ impl Waits {
     }
 
     // Register, judge the path. One function for all modes, so that the tables are handed on once.
-    fn attempt(
+    pub fn attempt(
         self,
         counts: &[u8; 2048],
         t: usize,
-        i: WaitIntent,
+        l: usize,
+        mode: WaitMode,
         buf: &mut [u8],
         from: usize,
     ) -> Told
-        requires { ⌜ InRange self × (t < 32) × (i .«lock_id» < 64) × (from + reportBytes ≤ length (now buf)) ⌝ }
-        ensures { λ r. ⌜ Tells r (now (buf .entry)) (now (buf .exit)) from (attemptFor (now (counts .entry)) self t i) ⌝ }
+        requires { ⌜ InRange self × (t < 32) × (l < 64) × (from + reportBytes ≤ length (now buf)) ⌝ }
+        ensures { λ r. ⌜ Tells r (now (buf .entry)) (now (buf .exit)) from (blockFor mode (now (counts .entry)) self t l) ⌝ }
     {
+        let lock_id = l as u8;
+        let i = WaitIntent { lock_id, mode };
         if self.is_free_for(counts, i) {
             return self.quiet(from);
         }
@@ -119,62 +122,5 @@ impl Waits {
             return w.validated_deadlock_info(counts, cycle, buf, from);
         }
         w.quiet(from)
-    }
-
-    // Register Mutex; a path must pass the filter, then validate.
-    pub fn block_mutex(
-        self,
-        counts: &[u8; 2048],
-        t: usize,
-        l: usize,
-        buf: &mut [u8],
-        from: usize,
-    ) -> Told
-        requires { ⌜ InRange self × (t < 32) × (l < 64) × (from + reportBytes ≤ length (now buf)) ⌝ }
-        ensures { λ r. ⌜ Tells r (now (buf .entry)) (now (buf .exit)) from (blockMutex (now (counts .entry)) self t l) ⌝ }
-    {
-        let i = WaitIntent {
-            lock_id: l as u8,
-            mode: WaitMode::Mutex,
-        };
-        self.attempt(counts, t, i, buf, from)
-    }
-
-    // Register RwRead; validate, no filter.
-    pub fn block_read(
-        self,
-        counts: &[u8; 2048],
-        t: usize,
-        l: usize,
-        buf: &mut [u8],
-        from: usize,
-    ) -> Told
-        requires { ⌜ InRange self × (t < 32) × (l < 64) × (from + reportBytes ≤ length (now buf)) ⌝ }
-        ensures { λ r. ⌜ Tells r (now (buf .entry)) (now (buf .exit)) from (block (now (counts .entry)) self t (readOn l)) ⌝ }
-    {
-        let i = WaitIntent {
-            lock_id: l as u8,
-            mode: WaitMode::RwRead,
-        };
-        self.attempt(counts, t, i, buf, from)
-    }
-
-    // Register RwWrite where the lock is not free; validate, no filter.
-    pub fn block_write(
-        self,
-        counts: &[u8; 2048],
-        t: usize,
-        l: usize,
-        buf: &mut [u8],
-        from: usize,
-    ) -> Told
-        requires { ⌜ InRange self × (t < 32) × (l < 64) × (from + reportBytes ≤ length (now buf)) ⌝ }
-        ensures { λ r. ⌜ Tells r (now (buf .entry)) (now (buf .exit)) from (blockWrite (now (counts .entry)) self t l) ⌝ }
-    {
-        let i = WaitIntent {
-            lock_id: l as u8,
-            mode: WaitMode::RwWrite,
-        };
-        self.attempt(counts, t, i, buf, from)
     }
 }

@@ -16,18 +16,18 @@ with-requires c κs = search needs
 element-copy-out-if1 : tie.Need-element-copy-out-if1
 element-copy-out-if1 c = search needs
 
-block-mutex-requires : tie.Need-block-mutex-requires
-block-mutex-requires c κs = search needs
+attempt-requires : tie.Need-attempt-requires
+attempt-requires c κs = search needs
 
-add-t20 : tie.Need-add-t20
-add-t20 c = omega (arith, c .before .before .before .before .block-mutex .ensures .few)
+add-t21 : tie.Need-add-t21
+add-t21 c = omega (arith, c .before .before .before .before .attempt .ensures .few)
 
 same-length : tie.Need-same-length
 same-length c = search needs
 
 returns : tie.Need-returns
 returns c =
-    let t = c .before .before .before .before .block-mutex .ensures in
+    let t = c .before .before .before .before .attempt .ensures in
     let s = c .before .before .before .before .before .before .before .before in (
       (λ b s′ k. wake-more _ _ _ _ _ _ k _ (s .with .ensures) _ _ (c .before .before .before .before .before .before .if1 .taken) t),
       t .room,
@@ -51,8 +51,8 @@ wake-one-spec =
     cast-l
     with-requires
     element-copy-out-if1
-    block-mutex-requires
-    add-t20
+    attempt-requires
+    add-t21
     same-length
     returns
     returns-2)

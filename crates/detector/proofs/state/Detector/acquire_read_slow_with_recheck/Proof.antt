@@ -1,27 +1,38 @@
-use Rattle.waits.specs.Attempt.{block, readOn}
-use Rattle.detector.specs.Code.{triedRead}
-use Rattle.detector.proofs.Promises.{redo, does-told, does-counts, read-blocked, read-took, read-count, not-full}
+use Rattle.detector.proofs.Promises.{redo, does-told, does-counts, not-full, as-taken, read-blocked}
+use Rattle.detector.specs.RwLock.{completeRead, acquireRead, readAttempt}
+use Rattle.detector.specs.Refusals.{fullAttempt}
+use Rattle.detector.specs.Code.{hinted}
 use Rattle.detector.specs.State.{tables}
 use Rattle.detector.specs.Tables.{withCounts, silent}
-use Rattle.detector.specs.RwLock.{acquireRead, countUp}
+use Rattle.waits.specs.Tables.{writerOf, write}
+use Rattle.waits.specs.Attempt.{block, readOn}
 use borrow.Author.Needs.{needs}
-use mathlib.Core.Path.{sym, ap, ap₂, _∙_}
+use mathlib.Core.Path.{sym, ap₂, _∙_}
 use Rattle.detector.proofs.state.Detector.acquire_read_slow_with_recheck.Statement.{
   statement,
 }
 use Rattle.detector.proofs.state.Detector.acquire_read_slow_with_recheck.Tie as tie
 
-read-tried-requires : tie.Need-read-tried-requires
-read-tried-requires c κs = search needs
+was-blocked-requires : tie.Need-was-blocked-requires
+was-blocked-requires c κs = search needs
+
+array-read-before : tie.Need-array-read-before
+array-read-before c = search needs
+
+cast-before : tie.Need-cast-before
+cast-before c = search needs
+
+hinted-requires : tie.Need-hinted-requires
+hinted-requires c κs = let s = c .before .before .before .before .before in (s .pre .0 .waits .writer (s .args .l), s .pre .3)
+
+written-by-requires : tie.Need-written-by-requires
+written-by-requires c κs = search needs
 
 readers-requires : tie.Need-readers-requires
 readers-requires c κs = search needs
 
-was-blocked-requires : tie.Need-was-blocked-requires
-was-blocked-requires c κs = search needs
-
-block-read-requires : tie.Need-block-read-requires
-block-read-requires c κs = search needs
+attempt-requires : tie.Need-attempt-requires
+attempt-requires c κs = search needs
 
 told-requires : tie.Need-told-requires
 told-requires c κs = search needs
@@ -32,50 +43,61 @@ same-length c = search needs
 returns : tie.Need-returns
 unfolding acquireRead
 returns c =
-    let s = c .before .before .before .before .before .before .before .before .before .before .before .before in
+    let k = c .before .before .before in
+    let h = k .before .before .before .before .before in
+    let i = h .before .before in
+    let s = i .before .before .before .before in
     let a = s .args in
-    let b = c .before .before .before .block-read .ensures in
-    let i = c .before .before .before .before .before .before in
-    let w = i .before .before .before .read-tried .ensures .0 in
     redo (read-blocked (tables (a .self)) (a .t) (a .l) (a .o) (sym (i .before .was-blocked .ensures) ∙ i .if1 .taken))
-    (does-told (a .self) _ _ _ _ (block (a .self .«rwlock_readers») (triedRead (a .self .waits) (a .t) (a .l) (a .o)) (a .t) (readOn (a .l)))
-    (c .told .ensures) (s .pre .0) (rw (i .before .before .readers .ensures, w) at b))
+    (does-told (a .self) _ _ _ _ (block (a .self .«rwlock_readers») (write (a .self .waits) (a .l) (hinted (writerOf (a .self .waits) (a .l)) (a .o))) (a .t) (readOn (a .l)))
+    (c .told .ensures) (s .pre .0) (rw (k .before .before .before .readers .ensures, k .before .before .before .before .written-by .ensures .0, h .hinted .ensures .0) at (k .attempt .ensures)))
+
+clear-wait-intent-requires : tie.Need-clear-wait-intent-requires
+clear-wait-intent-requires c κs = search needs
+
+readers-requires-2 : tie.Need-readers-requires-2
+readers-requires-2 c κs = search needs
 
 counted-up-requires : tie.Need-counted-up-requires
 counted-up-requires c κs =
-    let s = c .before .before .before .before .before .before in
+    let i = c .before .before in
+    let s = i .before .before .before .before in
     let a = s .args in
     let x = tables (a .self) in
-    let z = read-count x (a .t) (a .l) (a .o) (sym (c .before .was-blocked .ensures) ∙ c .if1 .left) (s .pre .4) in
-    (s .pre .1, s .pre .2, rw (c .before .before .readers .ensures) (not-full x (a .t) (a .l) z))
+    let z = as-taken (fullAttempt x (a .t) (a .l)) (a .o) (sym (i .before .was-blocked .ensures) ∙ i .if1 .left) ∙ s .pre .4 in
+    (s .pre .1, s .pre .2, rw (c .readers2 .ensures) (not-full x (a .t) (a .l) z))
 
 with-counts-requires : tie.Need-with-counts-requires
 with-counts-requires c κs = search needs
 
 returns-2 : tie.Need-returns-2
+unfolding completeRead
 returns-2 c =
-    let s = c .before .before .before .before .before .before .before .before in
+    let i = c .before .before .before .before in
+    let s = i .before .before .before .before in
     let a = s .args in
-    let i = c .before .before in
-    let n = c .before .counted-up .ensures in
-    let r = i .before .before .readers .ensures in
-    let w = i .before .before .before .read-tried .ensures in
+    let w = c .before .before .before .clear-wait-intent .ensures in
     redo
-    (ap₂ (λ w k. silent (withCounts (tables (a .self)) w k)) (w .0) (n ∙ ap (λ k. countUp k (a .l) (a .t)) r)
-    ∙ read-took (tables (a .self)) (a .t) (a .l) (a .o) (sym (i .before .was-blocked .ensures) ∙ i .if1 .left))
+    (ap₂ (λ w k. silent (withCounts (tables (a .self)) w k)) (w .0) (c .before .counted-up .ensures ∙ rw (c .before .before .readers2 .ensures))
+    ∙ as-taken (readAttempt (tables (a .self)) (a .t) (a .l)) (a .o) (sym (i .before .was-blocked .ensures) ∙ i .if1 .left))
     (does-counts (a .self) _ _ _ (c .with-counts .ensures) (s .pre .0) (w .1) _)
 
 pub acquire-read-slow-with-recheck-spec : {M : Type 1} → statement M
 acquire-read-slow-with-recheck-spec =
     tie.close
     (tie.spec
-    read-tried-requires
-    readers-requires
     was-blocked-requires
-    block-read-requires
+    array-read-before
+    cast-before
+    hinted-requires
+    written-by-requires
+    readers-requires
+    attempt-requires
     told-requires
     same-length
     returns
+    clear-wait-intent-requires
+    readers-requires-2
     counted-up-requires
     with-counts-requires
     returns-2)

@@ -1,67 +1,123 @@
-use Rattle.detector.proofs.Promises.{redo, does-of, does-told, does-length, write-unneeded, write-looked}
-use Rattle.detector.specs.Code.{putWaits, triedWrite, lookedWrite}
-use Rattle.detector.specs.State.{tables, Does}
-use Rattle.detector.specs.Tables.{said}
-use Rattle.waits.proofs.Telling.{retell, hush-tells}
+use Rattle.detector.proofs.Promises.{redo, does-told, idle-tells, tells-length, as-taken, write-blocked}
+use Rattle.detector.specs.RwLock.{written, completeWrite, acquireWrite, writeAttempt}
+use Rattle.detector.specs.Code.{hinted}
+use Rattle.detector.specs.State.{tables}
+use Rattle.waits.specs.Code.{Tells}
+use Rattle.waits.specs.Tables.{writerOf, write}
+use Rattle.waits.specs.Attempt.{settle, blockWrite}
 use borrow.Author.Needs.{needs}
-use mathlib.Core.Path.{refl, sym, _∙_}
+use mathlib.Core.Path.{sym, _∙_}
 use mathlib.Core.Logic.{⊎-elim}
 use Rattle.detector.proofs.state.Detector.acquire_write_slow_with_recheck.Statement.{
   statement,
 }
 use Rattle.detector.proofs.state.Detector.acquire_write_slow_with_recheck.Tie as tie
 
--- where the arms meet: no look was needed, or it has told
-met : (c : tie.Joined1)
-    → Does (putWaits (c .before .before .before .before .before .args .self) (c .if1 .w) (c .if1 .reports)) (c .before .before .before .before .before .args .buf .now) (c .if1 .buf)
-    (said (tables (c .before .before .before .before .before .args .self))
-    (lookedWrite (c .before .before .before .before .before .args .self .«rwlock_readers») (triedWrite (c .before .before .before .before .before .args .self .waits) (c .before .before .before .before .before .args .t) (c .before .before .before .before .before .args .l) (c .before .before .before .before .before .args .o))
-    (c .before .before .before .before .before .args .t) (c .before .before .before .before .before .args .l) (c .before .before .before .before .before .args .o)))
+-- where the arms meet: nobody waits, or the look has told
+met : (c : tie.Joined2)
+    → Tells (c .if2 .d) (c .before .before .before .before .before .before .before .before .before .args .buf .now) (c .if2 .buf) 0 (settle (c .before .before .before .before .before .before .before .before .before .args .self .«rwlock_readers») (c .before .before .before .gained .result) (c .before .before .before .before .before .before .before .before .before .args .l))
 met c =
-    let s = c .before .before .before .before .before in
-    let a = s .args in
-    let w = c .before .before .write-tried .ensures in
-    let v = triedWrite (a .self .waits) (a .t) (a .l) (a .o) in
     ⊎-elim
-    (λ z. rw (z .8, z .9, z .10) (does-told (a .self) _ _ _ _ _ refl (s .pre .0) (rw (z .1 .ensures, w .0) at (z .4 .ensures))))
-    (λ z.
-    rw (z .1, z .2, z .3)
-    (does-told (a .self) _ (record { waits = c .before .before .write-tried .result; reports = 0; used = 0 }) _ _ _ refl (s .pre .0)
-    (retell (write-unneeded _ v (a .t) (a .l) (a .o) (rw (w .0) at (sym (c .before .must-look .ensures) ∙ z .0 .left)))
-    (hush-tells _ v 0 _ (rw (w .0)) (rw (w .0) at (w .1))))))
-    (c .if1 .came)
+    (λ z. rw (z .7, z .8) (rw (z .1 .ensures) at (z .4 .ensures)))
+    (λ z. rw (z .1, z .2) (idle-tells _ _ _ _ _ (c .before .before .quiet .ensures) (c .before .before .before .gained .ensures .1) (z .0 .left)))
+    (c .if2 .came)
 
-write-tried-requires : tie.Need-write-tried-requires
-write-tried-requires c κs = search needs
+was-blocked-requires : tie.Need-was-blocked-requires
+was-blocked-requires c κs = search needs
 
-must-look-requires : tie.Need-must-look-requires
-must-look-requires c κs = search needs
+array-read-before : tie.Need-array-read-before
+array-read-before c = search needs
+
+cast-before : tie.Need-cast-before
+cast-before c = search needs
+
+hinted-requires : tie.Need-hinted-requires
+hinted-requires c κs = let s = c .before .before .before .before .before in (s .pre .0 .waits .writer (s .args .l), s .pre .3)
+
+written-by-requires : tie.Need-written-by-requires
+written-by-requires c κs = search needs
 
 readers-requires : tie.Need-readers-requires
 readers-requires c κs = search needs
 
-write-looked-requires : tie.Need-write-looked-requires
-write-looked-requires c κs = search needs
+attempt-requires : tie.Need-attempt-requires
+attempt-requires c κs = search needs
 
-with-waits-requires : tie.Need-with-waits-requires
-with-waits-requires c κs = search needs
+told-requires : tie.Need-told-requires
+told-requires c κs = search needs
 
 same-length : tie.Need-same-length
-same-length c = does-length (met (c .before))
+same-length c = search needs
 
 returns : tie.Need-returns
+unfolding acquireWrite
 returns c =
-    let a = c .before .before .before .before .before .before .args in
-    redo (write-looked (tables (a .self)) (a .t) (a .l) (a .o)) (does-of (c .with-waits .ensures) (met (c .before)))
+    let k = c .before .before .before in
+    let h = k .before .before .before .before .before in
+    let i = h .before .before in
+    let s = i .before .before .before .before in
+    let a = s .args in
+    redo (write-blocked (tables (a .self)) (a .t) (a .l) (a .o) (sym (i .before .was-blocked .ensures) ∙ i .if1 .taken))
+    (does-told (a .self) _ _ _ _ (blockWrite (a .self .«rwlock_readers») (write (a .self .waits) (a .l) (hinted (writerOf (a .self .waits) (a .l)) (a .o))) (a .t) (a .l))
+    (c .told .ensures) (s .pre .0) (rw (k .before .before .before .readers .ensures, k .before .before .before .before .written-by .ensures .0, h .hinted .ensures .0) at (k .attempt .ensures)))
+
+written-by-requires-2 : tie.Need-written-by-requires-2
+written-by-requires-2 c κs = search needs
+
+gained-requires : tie.Need-gained-requires
+gained-requires c κs = search needs
+
+quiet-requires : tie.Need-quiet-requires
+quiet-requires c κs = search needs
+
+mul-if2 : tie.Need-mul-if2
+mul-if2 c = search needs
+
+element-copy-out-if2 : tie.Need-element-copy-out-if2
+element-copy-out-if2 c = search needs
+
+readers-requires-2 : tie.Need-readers-requires-2
+readers-requires-2 c κs = search needs
+
+settle-requires : tie.Need-settle-requires
+settle-requires c κs = search needs
+
+told-requires-2 : tie.Need-told-requires-2
+told-requires-2 c κs = search needs
+
+same-length-2 : tie.Need-same-length-2
+same-length-2 c = tells-length (met (c .before))
+
+returns-2 : tie.Need-returns-2
+unfolding completeWrite written
+returns-2 c =
+    let i = c .before .before .before .before .before .before in
+    let s = i .before .before .before .before in
+    let a = s .args in
+    redo (rw (c .before .before .before .before .gained .ensures .0, c .before .before .before .before .before .written-by2 .ensures .0) (as-taken (writeAttempt (tables (a .self)) (a .t) (a .l)) (a .o) (sym (i .before .was-blocked .ensures) ∙ i .if1 .left)))
+    (does-told (a .self) _ _ _ _ _ (c .told2 .ensures) (s .pre .0) (met (c .before)))
 
 pub acquire-write-slow-with-recheck-spec : {M : Type 1} → statement M
 acquire-write-slow-with-recheck-spec =
     tie.close
     (tie.spec
-    write-tried-requires
-    must-look-requires
+    was-blocked-requires
+    array-read-before
+    cast-before
+    hinted-requires
+    written-by-requires
     readers-requires
-    write-looked-requires
-    with-waits-requires
+    attempt-requires
+    told-requires
     same-length
-    returns)
+    returns
+    written-by-requires-2
+    gained-requires
+    quiet-requires
+    mul-if2
+    element-copy-out-if2
+    readers-requires-2
+    settle-requires
+    told-requires-2
+    same-length-2
+    returns-2)
