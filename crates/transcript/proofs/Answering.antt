@@ -11,9 +11,10 @@ use Rattle.waits.specs.Code.{laid}
 use Rattle.detector.specs.Tables.{Tables, Answer, silent}
 use Rattle.detector.specs.Events.{apply}
 use Rattle.detector.specs.Refusals.{refusal}
-use Rattle.detector.specs.State.{tables, Valid, Does}
+use Rattle.detector.specs.State.{tables, reportsOf, Valid, Does}
 use Rattle.detector.specs.declared.event.Event.{Event}
 use Rattle.detector.specs.declared.state.Detector.{Detector}
+use Rattle.detector.specs.declared.reply.Answered.{Answered}
 use Rattle.detector.specs.declared.reply.Done.{Done}
 use Rattle.detector.specs.declared.reply.Reply.{Reply}
 use Rattle.detector.specs.declared.reply.Reply.the-variants.{Reports, Refused}
@@ -23,12 +24,22 @@ use Rattle.demands.specs.Invariants.{Brief}
 use Rattle.demands.proofs.Events.{served, unserved}
 use Rattle.demands.proofs.Brief.{most-32, valid-brief}
 use Rattle.answers.specs.Reports.{reportsIn, reportsSize, reportsBytes}
+use Rattle.answers.specs.Answers.{number}
 use Rattle.answers.proofs.Laid.{reports-read, reports-size}
 use Rattle.answers.proofs.Bounds.{Bytes}
 use Rattle.script.specs.declared.line.Line.{Line}
 use Rattle.script.specs.declared.line.Line.the-variants as line
 use Rattle.transcript.specs.Replay.{Result, replying, lineResult}
-use Rattle.transcript.specs.Code.{Results}
+
+-- what is returned, with the reports in the buffer b, is the result a
+pub record Results (r : Answered) (b : List ℕ) (a : Result) : Type 0 where
+  pub valid : Valid (r .detector)
+  pub state : tables (r .detector) ≡ a .tables
+  pub reply : r .reply ≡ a .reply
+  pub cycles : reportsIn (reportsOf (r .reply)) b ≡ a .cycles
+  pub held : reportsSize (reportsOf (r .reply)) b ≤ room
+  pub few : reportsOf (r .reply) ≤ 32
+  pub small : number (r .reply) < 256
 
 -- ---- the bytes of reports are those of their entries
 

@@ -24,9 +24,10 @@ use Rattle.transcript.specs.Lines.{lineFeed}
 use Rattle.demands.specs.Reached.{room}
 use Rattle.transcript.specs.Replay.{Run, Result, limit, lineResult, resultOf, resultText, after, lineText}
 use Rattle.transcript.specs.Chunks.{carrySize, Mid, mid, step, said, fed, says}
-use Rattle.transcript.specs.Code.{Results, runOf, midOf, IsRun, between, Moves}
+use Rattle.transcript.specs.Code.{runOf, midOf, IsRun, between, Moves}
 use Rattle.transcript.specs.declared.run.Run as code
 use Rattle.script.specs.declared.line.Line.{Line}
+use Rattle.transcript.proofs.Answering.{Results}
 use Rattle.transcript.proofs.Text.{fed-append, says-append, cut-result, cut-more}
 
 -- ---- the bytes of a chunk from a place to the next line feed, and that line feed

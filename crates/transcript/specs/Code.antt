@@ -3,27 +3,14 @@ use mathlib.Core.Path.{_≡_}
 use mathlib.Core.List.{List}
 use Prim.Native.Nat.{ℕ, _+_, _*_, _-_, _<_, _≤_}
 use lib.ListN.{length, take, drop}
-use Rattle.detector.specs.State.{tables, reportsOf, Valid}
-use Rattle.detector.specs.declared.reply.Answered.{Answered}
-use Rattle.demands.specs.Reached.{room}
+use Rattle.detector.specs.State.{tables, Valid}
 use Rattle.answers.specs.Text.{Put}
-use Rattle.answers.specs.Reports.{reportsIn, reportsSize}
-use Rattle.answers.specs.Answers.{number, answerRoom}
-use Rattle.transcript.specs.Replay.{Result, limit, begun}
+use Rattle.answers.specs.Answers.{answerRoom}
+use Rattle.transcript.specs.Replay.{limit, begun}
 use Rattle.transcript.specs.Replay as replay
 use Rattle.transcript.specs.Chunks.{carrySize, Mid, mid, fed, says}
 use Rattle.transcript.specs.declared.run.Run.{Run}
 use Rattle.transcript.specs.declared.run.Turned.{Turned}
-
--- what is returned, with the reports in the buffer b, is the result a
-pub record Results (r : Answered) (b : List ℕ) (a : Result) : Type 0 where
-  pub valid : Valid (r .detector)
-  pub state : tables (r .detector) ≡ a .tables
-  pub reply : r .reply ≡ a .reply
-  pub cycles : reportsIn (reportsOf (r .reply)) b ≡ a .cycles
-  pub held : reportsSize (reportsOf (r .reply)) b ≤ room
-  pub few : reportsOf (r .reply) ≤ 32
-  pub small : number (r .reply) < 256
 
 -- MEANING: the line so far stands in the carry
 abbrev pub runOf : Run → replay.Run
