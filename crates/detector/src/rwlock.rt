@@ -108,8 +108,8 @@ impl Detector {
     {
         let w0 = self.waits;
         if was_blocked(o) {
-            let owners = w0.rwlock_writer;
-            let before = owners[l] as usize;
+            let writers = w0.rwlock_writer;
+            let before = writers[l] as usize;
             let h = hinted(before, o);
             let w = written_by(w0, l, h);
             let counts = self.readers();
@@ -180,8 +180,8 @@ impl Detector {
     {
         let w0 = self.waits;
         if was_blocked(o) {
-            let owners = w0.rwlock_writer;
-            let before = owners[l] as usize;
+            let writers = w0.rwlock_writer;
+            let before = writers[l] as usize;
             let h = hinted(before, o);
             let w = written_by(w0, l, h);
             let counts = self.readers();
