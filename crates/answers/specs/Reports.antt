@@ -1,7 +1,7 @@
 -- The reports in the lent buffer: "one byte n, then n pairs of thread and awaited lock in cycle order. Reports stand from the buffer's first byte".
 use Prim.Native.Nat.{ℕ, zero, suc, _+_, _*_}
 use mathlib.Core.List.{List, [], _∷_, _++_}
-use lib.ListN.{length, drop, getD}
+use lib.ListN.{drop, getD}
 use Rattle.waits.specs.Report.{Entry, entryBytes, cycleBytes}
 
 -- the entry that b starts with

@@ -1,36 +1,35 @@
 -- How many reports an event gives, and how many bytes they take: in every state whose queues are no longer than 32.
-use mathlib.Core.Path.{_≡_, refl, subst}
+use mathlib.Core.Path.{_≡_, refl}
 use mathlib.Core.List.{List, [], _∷_, _++_, foldl}
 use mathlib.Core.Bool.{Bool, true, false, cond}
 use mathlib.Core.Option.{Option, none, some}
-use Prim.Native.Nat.{ℕ, _+_, _*_, _<_, _≤_}
+use Prim.Native.Nat.{ℕ, _+_, _*_, _≤_}
 use native.Mathlib.Omega.{arith}
 use lib.Dec.{eqb, ltb, lit≤}
 use lib.ListN.{length, length-append}
 use borrow.Author.Tests.{eqb-true}
 use Rattle.graph.proofs.Fits.{Fits}
 use Rattle.waits.specs.Tables.{ownerOf}
-use Rattle.waits.specs.Waiting.{Step, register, refresh, refreshLocks}
+use Rattle.waits.specs.Waiting.{register, refresh, refreshLocks}
 use Rattle.waits.specs.Filter.{passes}
 use Rattle.waits.specs.Report.{Report, Said, report, bytesOf, reportBytes, written, quiet, saying}
 use Rattle.waits.specs.Validate.{valid, awaitedLocks, checked, validate}
-use Rattle.waits.specs.Attempt.{judgedOf, judged, sievedOf, sieved, settle, block, blockMutex, mutexOn, writeOn, free, blockWrite}
+use Rattle.waits.specs.Attempt.{judgedOf, sievedOf, settle, block, blockMutex, mutexOn, writeOn, free, blockWrite}
 use Rattle.waits.specs.declared.tables.Waits.{Waits}
 use Rattle.waits.specs.declared.intent.WaitIntent.{WaitIntent}
 use Rattle.waits.specs.declared.outcome.Outcome.the-variants.{Took, Blocked, Hinted}
 use Rattle.waits.specs.declared.outcome.Tried.the-variants.{Taken, Missed}
 use Rattle.waits.proofs.Laws.{fits-register, fits-refresh, fits-locks}
 use Rattle.waits.proofs.Telling.{length-bytes}
-use Rattle.detector.specs.Tables.{Tables, Answer, queueOf, silent}
+use Rattle.detector.specs.Tables.{Tables, queueOf, silent}
 use Rattle.detector.specs.Mutex.{completeAcquire, acquireSlow, releaseMutex, destroyMutex}
 use Rattle.detector.specs.RwLock.{completeRead, acquireRead, tryRead, releaseRead, completeWrite, acquireWrite, releaseWrite, destroyRwLock}
 use Rattle.detector.specs.Condvar.{createCondvar, destroyCondvar, beginWait, Woken, attempted, wake, wakeAll, notifyFirst, notifyOne, notifyAll, endWait}
 use Rattle.detector.specs.Events.{apply}
 use Rattle.detector.specs.Refusals.{Inside, numbersOf, refusal}
-use Rattle.detector.specs.State.{tables, Valid}
+use Rattle.detector.specs.State.{tables}
 use Rattle.detector.specs.declared.event.Event.{Event}
 use Rattle.detector.specs.declared.event.Event.the-variants.{MutexAttempt, MutexAcquired, MutexReleased, MutexExit, RwReadAttempt, RwReadAcquired, RwReadTry, RwReadReleased, RwWriteAttempt, RwWriteAcquired, RwWriteReleased, RwExit, CondvarSpawn, CondvarExit, CondvarWaitBegin, CondvarNotifyOne, CondvarNotifyAll, CondvarWaitEnd}
-use Rattle.detector.specs.declared.state.Detector.{Detector}
 use Rattle.detector.specs.declared.state.Pair.{Pair}
 use Rattle.detector.proofs.Numbers.{accepted, queue-length}
 use Rattle.demands.specs.Reached.{answer}

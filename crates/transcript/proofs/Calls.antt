@@ -9,14 +9,14 @@ use lib.Dec.{ltb, lit≤}
 use lib.ListN.{length, take, drop}
 use borrow.Author.Tests.{ltb-true, ltb-false}
 use lib.Seq.{length-take-le, take-append-seam, drop-append-seam}
-use Rattle.answers.specs.Text.{Room, Put}
+use Rattle.answers.specs.Text.{Put}
 use Rattle.answers.proofs.Puts.{puts-coincide, put-whole}
 use Rattle.transcript.specs.Chunks.{Mid, start, mid, fed, says, ends, fedAll, saysAll, together}
 use Rattle.transcript.specs.Lines.{linesOf}
 use Rattle.transcript.specs.Replay as replay
 use Rattle.transcript.specs.Replay.{limit, begun, after, lineText, lastText, textOf, replayText}
-use Rattle.transcript.specs.Code.{Begins, Feeds, midOf, runOf, between}
-use Rattle.transcript.specs.Calls.{out, Calls, none, next, FeedsCoincide, Printed, AllPrinted, answersOf, lastOf, TextsAnswered}
+use Rattle.transcript.specs.Code.{Begins, midOf, between}
+use Rattle.transcript.specs.Calls.{out, Calls, none, next, FeedsCoincide, AllPrinted, answersOf, lastOf, TextsAnswered}
 use Rattle.transcript.specs.declared.run.Run.{Run}
 use Rattle.transcript.proofs.Text.{text-theorem}
 

@@ -7,7 +7,7 @@ use Rattle.detector.specs.State.{tables}
 use Rattle.detector.specs.Tables.{withCounts, silent}
 use Rattle.detector.specs.RwLock.{tryRead}
 use borrow.Author.Needs.{needs}
-use mathlib.Core.Path.{sym, ap, ap₂, subst, _∙_}
+use mathlib.Core.Path.{sym, ap₂, subst, _∙_}
 use Rattle.detector.proofs.state.Detector.try_read_nonblocking.Statement.{statement}
 use Rattle.detector.proofs.state.Detector.try_read_nonblocking.Tie as tie
 
