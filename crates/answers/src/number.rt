@@ -1,7 +1,7 @@
 // Numbers in decimal.
 use crate::put::put_byte;
 ghost use mathlib.Core.Path.{_≡_};
-ghost use Prim.Native.Nat.{_+_, _<_, _≤_};
+ghost use Prim.Native.Nat.{_+_, _<_};
 ghost use lib.ListN.{length};
 ghost use Rattle.answers.specs.Text.{digit, decimal, withTab, Room, Put};
 

@@ -12,7 +12,7 @@ use Rattle.sets.proofs.Digits.{with-lt, without-le}
 use Rattle.sets.proofs.Below.{each-keeps}
 use Rattle.sets.proofs.Tables.{set-all}
 use Rattle.waits.specs.Tables.{intentOf, ownerOf, writerOf, withIntents, own, write, hold, unhold}
-use Rattle.waits.specs.Owners.{countOf}
+use Rattle.waits.specs.Owners.{place, countOf}
 use Rattle.waits.specs.Waiting.{Step, clear, register, refresh, refreshNext, refreshLocks}
 use Rattle.waits.specs.Filter.{passes}
 use Rattle.waits.specs.Report.{quiet, saying}
@@ -77,11 +77,11 @@ counts-up x t l e k = counts-set _ _ _ (go (eqb (countOf (x .«rwlock_readers»)
   where
     go : (b : Bool) → eqb (countOf (x .«rwlock_readers») l t) 255 ≡ b → cond {A = ℕ} b 8 0 ≡ 0 → countOf (x .«rwlock_readers») l t + 1 ≤ 255
     go true p z = absurd (omega arith)
-    go false p z = let n : countOf (x .«rwlock_readers») l t ≡ 255 → ⊥ = eqb-false _ _ p in omega (arith, k .small (l * 32 + t))
+    go false p z = let n : countOf (x .«rwlock_readers») l t ≡ 255 → ⊥ = eqb-false _ _ p in omega (arith, k .small (place l t))
 
 counts-down : (c : List ℕ) (l t : ℕ) → Counts c → Counts (countDown c l t)
 unfolding countDown
-counts-down c l t k = counts-set _ _ _ (omega (arith, k .small (l * 32 + t))) k
+counts-down c l t k = counts-set _ _ _ (omega (arith, k .small (place l t))) k
 
 counts-none : (c : List ℕ) (l : ℕ) → Counts c → Counts (noReaders c l)
 unfolding noReaders

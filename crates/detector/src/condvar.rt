@@ -1,11 +1,10 @@
 // The events of a condition variable.
 ghost use mathlib.Core.Path.{_≡_};
 ghost use mathlib.Core.List.{List};
-ghost use Prim.Native.Nat.{ℕ, _+_, _*_, _<_, _≤_};
+ghost use Prim.Native.Nat.{ℕ, _+_, _<_, _≤_};
 ghost use lib.ListN.{length, getD};
 ghost use Rattle.waits.specs.Tables.{InRange};
 ghost use Rattle.waits.specs.Report.{reportBytes};
-ghost use Rattle.detector.specs.Tables.{noPair};
 ghost use Rattle.detector.specs.Condvar.{Woken, isPair, wake, wakeAll, forget, leave, createCondvar, destroyCondvar, beginWait, notifyOne, notifyAll, endWait};
 ghost use Rattle.detector.specs.Refusals.{reportRoom};
 ghost use Rattle.detector.specs.State.{pairsOf, tables, blankQueue, Queued, Valid, Does, Wakes};

@@ -2,7 +2,6 @@
 use answers::put_byte;
 use answers::put_bytes;
 use answers::put_number;
-ghost use Prim.Native.Nat.{_≤_};
 ghost use mathlib.Core.List.{[], _∷_};
 ghost use lib.Dec.{eqb};
 ghost use Rattle.answers.specs.Text.{decimal, Room, Put};

@@ -6,16 +6,13 @@ use crate::entry::put_reader;
 use crate::entry::put_wait;
 use crate::item::put_close;
 use detector::CvWait;
-use detector::Pair;
 use detector::Queue;
 use waits::Slot;
 use waits::place;
-ghost use mathlib.Core.Path.{_≡_};
 ghost use mathlib.Core.List.{map};
 ghost use Prim.Native.Nat.{_<_, _≤_};
-ghost use lib.ListN.{length};
 ghost use Rattle.answers.specs.Text.{Room, Put};
-ghost use Rattle.detector.specs.State.{pairsOf, Queued, blankQueue};
+ghost use Rattle.detector.specs.State.{pairsOf, Queued};
 ghost use Rattle.listing.specs.Listing.{tableText, ownersItems, readersOf, readersItems, queueItems, queuesItems, cvWaitsItems, intentsItems};
 ghost use Rattle.listing.specs.Code.{Roomy, Lists, Queues};
 

@@ -9,7 +9,6 @@ use answers::END_ROOM;
 use detector::Detector;
 ghost use mathlib.Core.Path.{_≡_};
 ghost use mathlib.Core.Bool.{true};
-ghost use lib.ListN.{length};
 ghost use Rattle.transcript.specs.Code.{IsRun};
 ghost use Rattle.transcript.specs.Entries.{runTest, feedTest, endTest, FeedAsks, EndAsks, FeedsAny, EndsAny};
 
