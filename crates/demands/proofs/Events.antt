@@ -27,7 +27,7 @@ use Rattle.detector.proofs.Numbers.{inside-next, accepted}
 use Rattle.demands.specs.Reached.{answer}
 use Rattle.demands.specs.Invariants.{Fine, Seated, Kept}
 use Rattle.demands.specs.Demand3.{Passed, TrueReport, Each}
-use Rattle.demands.proofs.Keeping.{acquired-keeps, written-keeps}
+use Rattle.demands.proofs.Keeping.{acquired-keeps, write-acquired-keeps}
 use Rattle.demands.proofs.Fine.{fine-own, fine-write, fine-rules}
 use Rattle.demands.proofs.Reports.{each-map, each-append, Made, Fair, fair-quiet, fair-settle, fair-block, fair-mutex}
 
@@ -45,37 +45,37 @@ accepted-full x room e h =
 heard : (x : Tables) (e : Event) (y : Tables) {w : Waits} {r : Report} → Passed x e y (r .state) → Made (y .«rwlock_readers») w r → TrueReport x e y r
 heard x e y p m = record { cycle = m .cycle; passed = p }
 
-abbrev pub Answers : Tables → Event → Answer → Type 0
-Answers x e a = Each (TrueReport x e (a .tables)) (a .reports)
+abbrev pub AllTrue : Tables → Event → Answer → Type 0
+AllTrue x e a = Each (TrueReport x e (a .tables)) (a .reports)
 
 -- one judgement, which is the last thing that the event does
 answers-one : (x : Tables) (e : Event) (y : Tables) (rs : List Report) → Fair (y .«rwlock_readers») (record { waits = y .waits; reports = rs })
-    → Answers x e (record { tables = y; reports = rs })
+    → AllTrue x e (record { tables = y; reports = rs })
 answers-one x e y rs f = each-map (Made (y .«rwlock_readers») (y .waits)) (TrueReport x e y) (λ r m. heard x e y (inl (m .here)) m) rs (f .each)
 
-answers-said : (x : Tables) (e : Event) (a : Said) → Fair (x .«rwlock_readers») a → Answers x e (said x a)
+answers-said : (x : Tables) (e : Event) (a : Said) → Fair (x .«rwlock_readers») a → AllTrue x e (said x a)
 answers-said x e a f = answers-one x e (withWaits x (a .waits)) (a .reports) f
 
 -- ---- the attempts and what completes them
 
 module _ (x : Tables) (e : Event) (k : Kept x) where
-  answers-acquire : (t l : ℕ) → t < 32 → l < 64 → Answers x e (completeAcquire x t l)
+  answers-acquire : (t l : ℕ) → t < 32 → l < 64 → AllTrue x e (completeAcquire x t l)
   unfolding completeAcquire
   answers-acquire t l h i = answers-said x e _ (fair-settle (x .«rwlock_readers») _ l (acquired-keeps fine-rules (x .waits) t l h i (k .waits)))
 
-  answers-slow : (w : Waits) (t l : ℕ) → t < 32 → l < 64 → Fine w → Answers x e (acquireSlow x w t l)
+  answers-slow : (w : Waits) (t l : ℕ) → t < 32 → l < 64 → Fine w → AllTrue x e (acquireSlow x w t l)
   unfolding acquireSlow
   answers-slow w t l h i f = answers-said x e _ (fair-mutex (x .«rwlock_readers») w t l h i f)
 
-  answers-write : (t l : ℕ) → t < 32 → l < 64 → Answers x e (completeWrite x t l)
+  answers-write : (t l : ℕ) → t < 32 → l < 64 → AllTrue x e (completeWrite x t l)
   unfolding completeWrite
-  answers-write t l h i = answers-said x e _ (fair-settle (x .«rwlock_readers») _ l (written-keeps fine-rules (x .waits) t l h i (k .waits)))
+  answers-write t l h i = answers-said x e _ (fair-settle (x .«rwlock_readers») _ l (write-acquired-keeps fine-rules (x .waits) t l h i (k .waits)))
 
-  answers-read : (w : Waits) (t l : ℕ) → t < 32 → l < 64 → Fine w → Answers x e (acquireRead x w t l)
+  answers-read : (w : Waits) (t l : ℕ) → t < 32 → l < 64 → Fine w → AllTrue x e (acquireRead x w t l)
   unfolding acquireRead
   answers-read w t l h i f = answers-said x e _ (fair-block (x .«rwlock_readers») w t (readOn l) h i f)
 
-  answers-blocked : (w : Waits) (t l : ℕ) → t < 32 → l < 64 → Fine w → Answers x e (acquireWrite x w t l)
+  answers-blocked : (w : Waits) (t l : ℕ) → t < 32 → l < 64 → Fine w → AllTrue x e (acquireWrite x w t l)
   unfolding acquireWrite blockWrite
   answers-blocked w t l h i f = answers-said x e _ (go (free (x .«rwlock_readers») w l))
     where
@@ -110,18 +110,18 @@ walked c P (p ∷ q) s k v h =
       each = each-append P (s .reports) _ (v .each) (each-map (Made c (attempted c (s .waits) p .waits)) P (h 1) (attempted c (s .waits) p .reports) (a .each));
     }) (λ m. h (suc m))
 
-answers-all : (x : Tables) (c : ℕ) → Kept x → Answers x (CondvarNotifyAll c) (notifyAll x c)
+answers-all : (x : Tables) (c : ℕ) → Kept x → AllTrue x (CondvarNotifyAll c) (notifyAll x c)
 unfolding notifyAll wakeAll
 answers-all x c k =
     walked (x .«rwlock_readers») (TrueReport x (CondvarNotifyAll c) (notifyAll x c .tables)) (queueOf x c) (record { waits = x .waits; woken = x .«cv_woken»; reports = [] }) (k .seated c)
     (record { fine = k .waits; each = tt })
     (λ m r d. heard x (CondvarNotifyAll c) (notifyAll x c .tables) (inr (c, m, refl, d .here)) d) .each
 
-answers-first : (x : Tables) (c : ℕ) → Kept x → Answers x (CondvarNotifyOne c) (notifyOne x c)
+answers-first : (x : Tables) (c : ℕ) → Kept x → AllTrue x (CondvarNotifyOne c) (notifyOne x c)
 unfolding notifyOne wakeAll wake
 answers-first x c k = go (queueOf x c) (k .seated c)
   where
-    go : (q : List Pair) → Seated q → Answers x (CondvarNotifyOne c) (notifyFirst x c q)
+    go : (q : List Pair) → Seated q → AllTrue x (CondvarNotifyOne c) (notifyFirst x c q)
     go [] s = tt
     go (p ∷ q) s =
         let a = fair-attempted (x .«rwlock_readers») (x .waits) p (s .0) (s .1) (k .waits) in
@@ -129,7 +129,7 @@ answers-first x c k = go (queueOf x c) (k .seated c)
 
 -- ---- every event
 
-answers-apply : (x : Tables) (e : Event) (room : ℕ) → Inside (numbersOf e) room → Kept x → Answers x e (apply e x)
+answers-apply : (x : Tables) (e : Event) (room : ℕ) → Inside (numbersOf e) room → Kept x → AllTrue x e (apply e x)
 unfolding releaseMutex destroyMutex completeRead tryRead releaseRead releaseWrite destroyRwLock createCondvar destroyCondvar beginWait endWait
 answers-apply x (MutexAttempt t l Took) n h k = answers-acquire x (MutexAttempt t l Took) k t l (h .thread) (h .lock)
 answers-apply x (MutexAttempt t l Blocked) n h k = answers-slow x (MutexAttempt t l Blocked) k (x .waits) t l (h .thread) (h .lock) (k .waits)
@@ -170,10 +170,10 @@ pub unserved : (x : Tables) (room : ℕ) (e : Event) → (refusal x room e ≡ 0
 unfolding answer
 unserved x room e h = rw (ne-eqb (refusal x room e) 0 h)
 
-pub answers-answer : (x : Tables) (room : ℕ) (e : Event) → Kept x → Answers x e (answer x room e)
+pub answers-answer : (x : Tables) (room : ℕ) (e : Event) → Kept x → AllTrue x e (answer x room e)
 unfolding answer
 answers-answer x room e k = go (eqb (refusal x room e) 0) refl
   where
-    go : (b : Bool) → eqb (refusal x room e) 0 ≡ b → Answers x e (cond b (apply e x) (silent x))
+    go : (b : Bool) → eqb (refusal x room e) 0 ≡ b → AllTrue x e (cond b (apply e x) (silent x))
     go true q = answers-apply x e room (accepted x room e (eqb-true _ _ q) .inside) k
     go false q = tt

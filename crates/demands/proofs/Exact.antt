@@ -15,7 +15,8 @@ use Rattle.sets.specs.Sets.{bit, has}
 use Rattle.sets.specs.Lists.{In, among}
 use Rattle.sets.specs.Below.{those}
 use Rattle.sets.proofs.Digits.{bit-zero, bit-below}
-use Rattle.sets.proofs.Lists.{among-in, in-among}
+use Rattle.waits.proofs.Masks.{in-nothing}
+use Rattle.sets.proofs.Lists.{among-in, in-among, both}
 use Rattle.sets.proofs.Below.{those-in, in-those}
 use Rattle.graph.specs.Ways.{Rel, Acyclic, Cycle, Fan, Round, Ring}
 use Rattle.graph.specs.Search.{row}
@@ -51,7 +52,6 @@ use Rattle.detector.specs.declared.event.Event.the-variants.{MutexAttempt, RwRe
 use Rattle.demands.specs.Invariants.{Fine, Kept}
 use Rattle.demands.specs.Demand3.{Exact, Alone, Apt, Shared, Spared, SecondHalf}
 use Rattle.demands.proofs.Fine.{unwaited-graph, fine-own, fine-write, fine-set}
-use Rattle.detector.proofs.Validity.{both}
 use Rattle.detector.proofs.Numbers.{accepted}
 use Rattle.demands.proofs.Events.{served}
 use Rattle.demands.proofs.Invariants.{reached-kept}
@@ -214,10 +214,6 @@ nothing-none : (l : List ℕ) → nothing l ≡ true → (y : ℕ) → In y l �
 nothing-none [] e y m = m
 nothing-none (z ∷ l) e y m = false≢true e
 
-none-nothing : (l : List ℕ) → ((y : ℕ) → In y l → ⊥) → nothing l ≡ true
-none-nothing [] h = refl
-none-nothing (z ∷ l) h = absurd (h z (inl refl))
-
 something : (l : List ℕ) → nothing l ≡ false → (y : ℕ) × In y l
 something [] e = absurd (true≢false e)
 something (z ∷ l) e = (z, inl refl)
@@ -233,7 +229,7 @@ unread-zero c l e t h = go (eqb (countOf c l t) 0) refl
 zero-unread : (c : List ℕ) (l : ℕ) → ((t : ℕ) → t < 32 → countOf c l t ≡ 0) → unread c l ≡ true
 unfolding readers
 zero-unread c l h =
-    none-nothing (those (reads c l) 32) (λ t m. let q = those-in (reads c l) 32 t m in false≢true (sym (ap not (eq-eqb (countOf c l t) 0 (h t (q .0)))) ∙ q .1))
+    in-nothing (those (reads c l) 32) (λ t m. let q = those-in (reads c l) 32 t m in false≢true (sym (ap not (eq-eqb (countOf c l t) 0 (h t (q .0)))) ∙ q .1))
 
 shared-of : (c : List ℕ) (w : Waits) (p : List ℕ) → passes c w p ≡ false → Shared c w p
 unfolding commonLocks

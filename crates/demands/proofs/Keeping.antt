@@ -3,7 +3,7 @@ use mathlib.Core.Path.{_≡_, refl}
 use mathlib.Core.List.{List, [], _∷_, _++_, foldl}
 use mathlib.Core.Bool.{Bool, true, false, cond}
 use mathlib.Core.Option.{Option, none, some}
-use Prim.Native.Nat.{ℕ, suc, _+_, _*_, _-_, _<_, _≤_, _^_}
+use Prim.Native.Nat.{ℕ, suc, _+_, _-_, _<_, _≤_, _^_}
 use native.Mathlib.Omega.{arith}
 use lib.Dec.{eqb, ltb, lit≤}
 use lib.ListN.{getD, set, length, length-set, length-append}
@@ -24,8 +24,7 @@ use Rattle.waits.specs.declared.outcome.Outcome.the-variants.{Took, Blocked, Hi
 use Rattle.waits.specs.declared.outcome.Tried.the-variants.{Taken, Missed}
 use Rattle.detector.specs.Tables.{Tables, noWait, blankWait, queueOf, withWaits, withCounts, withQueue, withWoken, silent}
 use Rattle.detector.specs.Mutex.{acquired, completeAcquire, acquireSlow, released, releaseMutex, clearNaming, unholdAll, purge, destroyMutex}
-use Rattle.detector.specs.RwLock as rwlock
-use Rattle.detector.specs.RwLock.{countUp, countDown, completeRead, acquireRead, tryRead, loosen, releaseRead, completeWrite, acquireWrite, unwritten, releaseWrite, noReaders, setCount, destroyRwLock}
+use Rattle.detector.specs.RwLock.{countUp, countDown, completeRead, acquireRead, tryRead, loosen, releaseRead, writeAcquired, completeWrite, acquireWrite, writeReleased, releaseWrite, noReaders, setCount, destroyRwLock}
 use Rattle.detector.specs.Condvar.{condvarAt, createCondvar, forget, destroyCondvar, beginWait, Woken, attempted, wake, wakeAll, notifyFirst, notifyOne, notifyAll, isPair, leave, endWait}
 use Rattle.detector.specs.Events.{apply}
 use Rattle.detector.specs.Refusals.{Inside, numbersOf, fullCount, full, refusal}
@@ -120,17 +119,17 @@ module _ {P : Waits → Type 0} (rules : Rules P) where
   unfolding acquired
   acquired-keeps w t l h k f = rules .cleared _ t h (rules .holding _ t l k (rules .owned w l t (omega arith) f))
 
-  pub written-keeps : (w : Waits) (t l : ℕ) → t < 32 → l < 64 → P w → P (rwlock.written w t l)
-  unfolding rwlock.written
-  written-keeps w t l h k f = rules .cleared _ t h (rules .holding _ t l k (rules .wrote w l t (omega arith) f))
+  pub write-acquired-keeps : (w : Waits) (t l : ℕ) → t < 32 → l < 64 → P w → P (writeAcquired w t l)
+  unfolding writeAcquired
+  write-acquired-keeps w t l h k f = rules .cleared _ t h (rules .holding _ t l k (rules .wrote w l t (omega arith) f))
 
   released-keeps : (w : Waits) (t l : ℕ) → P w → P (released w t l)
   unfolding released
   released-keeps w t l f = rules .unholding _ t l (if-keeps (eqb (ownerOf w l) t) _ _ (rules .owned w l 32 (lit≤ tt) f) f)
 
-  unwritten-keeps : (w : Waits) (t l : ℕ) → P w → P (unwritten w t l)
-  unfolding unwritten
-  unwritten-keeps w t l f = rules .unholding _ t l (if-keeps (eqb (writerOf w l) t) _ _ (rules .wrote w l 32 (lit≤ tt) f) f)
+  write-released-keeps : (w : Waits) (t l : ℕ) → P w → P (writeReleased w t l)
+  unfolding writeReleased
+  write-released-keeps w t l f = rules .unholding _ t l (if-keeps (eqb (writerOf w l) t) _ _ (rules .wrote w l 32 (lit≤ tt) f) f)
 
   naming-keeps : (w : Waits) (l : ℕ) → P w → P (clearNaming w l)
   unfolding clearNaming
@@ -283,7 +282,7 @@ module _ {P : Waits → Type 0} (rules : Rules P) where
 
     kept-write : (t l : ℕ) → t < 32 → l < 64 → KeptWith P (completeWrite x t l .tables)
     unfolding completeWrite
-    kept-write t l h i = put-waits x _ (settle-keeps (x .«rwlock_readers») _ l (written-keeps (x .waits) t l h i (k .waits))) k
+    kept-write t l h i = put-waits x _ (settle-keeps (x .«rwlock_readers») _ l (write-acquired-keeps (x .waits) t l h i (k .waits))) k
 
     kept-writing : (w : Waits) (t l : ℕ) → t < 32 → l < 64 → P w → KeptWith P (acquireWrite x w t l .tables)
     unfolding acquireWrite
@@ -291,7 +290,7 @@ module _ {P : Waits → Type 0} (rules : Rules P) where
 
     kept-unwrite : (t l : ℕ) → t < 32 → KeptWith P (releaseWrite x t l .tables)
     unfolding releaseWrite
-    kept-unwrite t l h = put-waits x _ (rules .loosened _ t l h (unwritten-keeps (x .waits) t l (k .waits))) k
+    kept-unwrite t l h = put-waits x _ (rules .loosened _ t l h (write-released-keeps (x .waits) t l (k .waits))) k
 
     kept-gone : (l : ℕ) → l < 64 → KeptWith P (destroyRwLock x l .tables)
     unfolding destroyRwLock

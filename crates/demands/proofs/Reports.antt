@@ -5,7 +5,7 @@ use mathlib.Core.Bool.{Bool, true, false, cond, false≢true}
 use mathlib.Core.Option.{Option, none, some}
 use Prim.Native.Nat.{ℕ, _<_}
 use Rattle.sets.specs.Lists.{In, Distinct}
-use Rattle.sets.proofs.Lists.{among-in}
+use Rattle.sets.proofs.Lists.{among-in, both}
 use Rattle.graph.specs.Ways.{Round, Ring}
 use Rattle.waits.specs.Tables.{intentOf, lockOf}
 use Rattle.waits.specs.Owners.{blocking, waitsFor}
@@ -18,7 +18,6 @@ use Rattle.waits.specs.declared.tables.Waits.{Waits}
 use Rattle.waits.specs.declared.intent.WaitIntent.{WaitIntent}
 use Rattle.waits.specs.declared.intent.Awaits.{Awaits}
 use Rattle.waits.specs.declared.intent.Awaits.the-variants.{Nothing, For}
-use Rattle.detector.proofs.Validity.{both}
 use Rattle.demands.specs.Invariants.{Fine}
 use Rattle.demands.specs.Demand3.{Blocks, TrueCycle, Each}
 use Rattle.demands.proofs.Fine.{Neat, Stepped, stepped-register, stepped-refresh, stepped-locks}

@@ -6,8 +6,7 @@ use Rattle.demands.specs.Reached.{answer, reach}
 use Rattle.detector.specs.Refusals.{refusal, outside}
 use Rattle.detector.specs.Stuck.{stuckCount, trueWaits, anyBack}
 use Rattle.detector.specs.Mutex.{acquired, completeAcquire, acquireSlow, released, releaseMutex, clearNaming, unholdAll, purge, destroyMutex}
-use Rattle.detector.specs.RwLock as rwlock
-use Rattle.detector.specs.RwLock.{countUp, countDown, completeRead, acquireRead, tryRead, loosen, releaseRead, unwritten, releaseWrite, completeWrite, acquireWrite, noReaders, destroyRwLock}
+use Rattle.detector.specs.RwLock.{countUp, countDown, completeRead, acquireRead, tryRead, loosen, releaseRead, writeReleased, releaseWrite, writeAcquired, completeWrite, acquireWrite, noReaders, destroyRwLock}
 use Rattle.detector.specs.Condvar.{createCondvar, forget, destroyCondvar, beginWait, attempted, wake, wakeAll, notifyOne, notifyAll, leave, endWait}
 use Rattle.waits.specs.Waiting.{clear, setIntent, register, renew, renewAll, refresh, refreshNext, refreshLocks}
 use Rattle.waits.specs.Owners.{readers, waitsFor}
@@ -23,7 +22,7 @@ use Rattle.sets.specs.Below.{each, those}
 
 -- every definition that a run opens, named once
 opened : List Session → List (List Seen)
-unfolding ruled run seen edgesIn intentsIn answer refusal outside stuckCount trueWaits anyBack acquired completeAcquire acquireSlow released releaseMutex clearNaming unholdAll purge destroyMutex countUp countDown completeRead acquireRead tryRead loosen releaseRead unwritten releaseWrite rwlock.written completeWrite blockWrite acquireWrite noReaders destroyRwLock createCondvar forget destroyCondvar beginWait attempted wake wakeAll notifyOne notifyAll leave endWait clear setIntent register renew renewAll refresh refreshNext refreshLocks readers waitsFor allHold commonLocks around valid awaitedBy awaitedLocks checked validate settle block blockMutex entriesText bytesOf written cutAll stored closing addEdge addNext addOwners removeEdge removeEdgesTo clearWaitEdges visit expand wayBack search findPath bit with without upwardFrom among each those
+unfolding ruled run seen edgesIn intentsIn answer refusal outside stuckCount trueWaits anyBack acquired completeAcquire acquireSlow released releaseMutex clearNaming unholdAll purge destroyMutex countUp countDown completeRead acquireRead tryRead loosen releaseRead writeReleased releaseWrite writeAcquired completeWrite blockWrite acquireWrite noReaders destroyRwLock createCondvar forget destroyCondvar beginWait attempted wake wakeAll notifyOne notifyAll leave endWait clear setIntent register renew renewAll refresh refreshNext refreshLocks readers waitsFor allHold commonLocks around valid awaitedBy awaitedLocks checked validate settle block blockMutex entriesText bytesOf written cutAll stored closing addEdge addNext addOwners removeEdge removeEdgesTo clearWaitEdges visit expand wayBack search findPath bit with without upwardFrom among each those
 opened ss = ruled ss
 
 pub sessions-hold : SessionsHold

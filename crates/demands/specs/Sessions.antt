@@ -141,9 +141,12 @@ pub record Line : Type 0 where
 abbrev pub quiet : Event → Pairs → Pairs → ℕ → Line
 quiet e g i n = record { event = e; says = record { refused = 0; reports = []; bytes = []; edges = g; intents = i; stuck = n } }
 
--- one cycle is: the event, the cycle, its bytes, then as above
+-- cycles are, or one is: the event, the cycles, their bytes, then as above
+abbrev pub cycles : Event → List Pairs → List ℕ → Pairs → Pairs → ℕ → Line
+cycles e rs b g i n = record { event = e; says = record { refused = 0; reports = rs; bytes = b; edges = g; intents = i; stuck = n } }
+
 abbrev pub cycle : Event → Pairs → List ℕ → Pairs → Pairs → ℕ → Line
-cycle e r b g i n = record { event = e; says = record { refused = 0; reports = r ∷ []; bytes = b; edges = g; intents = i; stuck = n } }
+cycle e r b g i n = cycles e (r ∷ []) b g i n
 
 -- refused by this number, with no edge and no intent
 abbrev pub refused : Event → ℕ → Line
@@ -317,6 +320,14 @@ further =
     ∷ quiet (cd 0) [] [] 0
     ∷ quiet (ca 0) [] [] 0
     ∷ quiet (c1 1) ((3, 1) ∷ []) ((3, 5) ∷ []) 0
+    ∷ [])
+    -- ca reports for each pair; a pair that stands twice is treated twice
+    ∷ session 24
+    (quiet (ma 1 5 took) [] [] 0
+    ∷ quiet (rc 2 5) [] [] 0
+    ∷ quiet (cb 1 0 5) [] [] 0
+    ∷ quiet (cb 1 0 5) [] [] 0
+    ∷ cycles (ca 0) (((1, 5) ∷ []) ∷ ((1, 5) ∷ []) ∷ []) (1 ∷ 1 ∷ 5 ∷ 1 ∷ 1 ∷ 5 ∷ []) [] ((1, 5) ∷ []) 1
     ∷ [])
     ∷ []
 

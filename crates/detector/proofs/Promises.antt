@@ -44,9 +44,6 @@ valid-counts d w c v s = record { waits = s; queues = v .queues; waiting = v .wa
 pub redo : {r : Done} {b e : List ℕ} {a z : Answer} → a ≡ z → Does r b e a → Does r b e z
 redo {r} {b} {e} q t = subst (Does r b e) q t
 
-pub does-of : {r q : Done} {b e : List ℕ} {a : Answer} → r ≡ q → Does q b e a → Does r b e a
-does-of {b = b} {e = e} {a = a} p t = subst (λ (x : Done). Does x b e a) (sym p) t
-
 -- what was told is what was said
 pub does-told : (d : Detector) (r : Done) (k : Told) (b e : List ℕ) (a : Said) → r ≡ putWaits d (k .waits) (k .reports) → Valid d → Tells k b e 0 a → Does r b e (said (tables d) a)
 does-told d r k b e a q v t = subst (λ (x : Done). Does x b e (said (tables d) a)) (sym q) told
@@ -118,9 +115,6 @@ count-down-at c l t h = getD-set-same c (place l t) (countOf c l t - 1) 0 h
 
 pub tells-length : {r : Told} {b e : List ℕ} {from : ℕ} {a : Said} → Tells r b e from a → length e ≡ length b
 tells-length {b = b} {from = from} {a = a} t = ap length (t .bytes) ∙ laid-length b from (written (a .reports))
-
-pub does-length : {r : Done} {b e : List ℕ} {a : Answer} → Does r b e a → length e ≡ length b
-does-length {b = b} {a = a} t = ap length (t .bytes) ∙ laid-length b 0 (written (a .reports))
 
 -- ---- the empty state is valid
 

@@ -6,7 +6,7 @@ use Prim.Native.Nat.{ℕ, zero, suc, _+_, _<_, _≤_}
 use native.Mathlib.Numerals.{add-one}
 use native.Mathlib.Omega.{arith}
 use lib.Dec.{eqb, lit<, lit≤}
-use lib.ListN.{getD, set, length, take, replicate, length-append, length-set, List·getD-map}
+use lib.ListN.{getD, set, length, take, replicate, length-append, length-set}
 use lib.Seq.{take-suc, take-suc-set, getD-set-other, length-take-le}
 use borrow.Author.Tests.{eq-eqb, ne-eqb, lt-ltb, le-ltb}
 use Rattle.sets.specs.Sets.{with}
@@ -20,6 +20,7 @@ use Rattle.waits.specs.Code.{Tells, laid}
 use Rattle.waits.specs.declared.tables.Waits.{Waits}
 use Rattle.waits.specs.declared.tables.Told.{Told}
 use Rattle.waits.proofs.Telling.{laid-none, laid-append}
+use Rattle.detector.proofs.Numbers.{queue-at}
 use Rattle.detector.specs.Tables.{noPair, noWait, blankWait, queueOf, withQueue, withWoken}
 use Rattle.detector.specs.Condvar.{condvarAt, forget, Woken, attempted, wake, wakeAll, notify, notifyOne, isPair, leave}
 use Rattle.detector.specs.State.{pairsOf, tables, blankQueue, Queued, Waiting, Valid, Does, Wakes}
@@ -236,9 +237,6 @@ map-set f [] i v = refl
 map-set f (x ∷ l) zero v = refl
 map-set f (x ∷ l) (suc i) v = ap (λ (r : List _). f x ∷ r) (map-set f l i v)
 
-pub queue-of : (d : Detector) (c : ℕ) → queueOf (tables d) c ≡ pairsOf (getD (d .rest .«cv_waiters») c blankQueue)
-queue-of d c = List·getD-map pairsOf (d .rest .«cv_waiters») c blankQueue
-
 -- the state with q for the queue of c, and with other waits
 abbrev pub queuedState : Detector → ℕ → Queue → List CvWait → Waits → ℕ → Detector
 queuedState d c q v w m =
@@ -273,7 +271,7 @@ module _ (d : Detector) (c : ℕ) (q : Queue) (l : List Pair) (v : List CvWait) 
 
 -- the cells of c's queue hold what it means
 pub held : (d : Detector) (c : ℕ) → Valid d → c < 16 → (let q = getD (d .rest .«cv_waiters») c blankQueue in Holds (q .pairs) (q .len) (queueOf (tables d) c))
-held d c v h = record { queued = v .queues c h; list = sym (queue-of d c) }
+held d c v h = record { queued = v .queues c h; list = sym (queue-at d c) }
 
 abbrev begun : Detector → Woken
 begun d = record { waits = d .waits; woken = d .«cv_woken»; reports = [] }
@@ -290,7 +288,7 @@ module _ (d : Detector) (c : ℕ) (h : Valid d) (s : c < 16) where
   -- nobody waits
   pub nobody-does : getD (d .rest .«cv_waiters») c blankQueue .len ≡ 0 → (b : List ℕ) → Does (record { detector = d; reports = 0 }) b b (notifyOne (tables d) c)
   unfolding notifyOne
-  nobody-does e b = rw (queue-of d c, e) (record { state = refl; count = refl; bytes = silent-bytes b; valid = h })
+  nobody-does e b = rw (queue-at d c, e) (record { state = refl; count = refl; bytes = silent-bytes b; valid = h })
 
   pub first-does : (q : Queue) (a : Awake) (b e : List ℕ)
       → (let o = getD (d .rest .«cv_waiters») c blankQueue in
@@ -300,5 +298,5 @@ module _ (d : Detector) (c : ℕ) (h : Valid d) (s : c < 16) where
   unfolding notifyOne
   first-does q a b e n u f k =
       let o = getD (d .rest .«cv_waiters») c blankQueue in
-      rw (queue-of d c, first-of (o .pairs) (o .len) n (omega (arith, h .queues c s .cells)))
+      rw (queue-at d c, first-of (o .pairs) (o .len) n (omega (arith, h .queues c s .cells)))
       (notify-does d c q (tailOf (pairsOf o)) (getD (o .pairs) 0 noPair ∷ []) a b e h u f (rw (wake-first _ _ _) k))

@@ -8,7 +8,7 @@ use Rattle.waits.specs.Tables.{InRange, ownerOf, writerOf, withHolds, own, writ
 use Rattle.waits.specs.declared.tables.Waits.{Waits}
 use Rattle.waits.proofs.Laws.{range-own, range-write, range-clear, range-graph}
 use Rattle.detector.specs.Mutex.{gain, released, unholdAll, purge}
-use Rattle.detector.specs.RwLock.{unwritten, loosen}
+use Rattle.detector.specs.RwLock.{writeReleased, loosen}
 
 range-holds : (w : Waits) (h : List ℕ) → InRange w → InRange (withHolds w h)
 range-holds w h s = record { locks = s .locks; owner = s .owner; writer = s .writer }
@@ -24,9 +24,9 @@ pub range-released : (w : Waits) (t l : ℕ) → InRange w → InRange (released
 unfolding released
 range-released w t l s = range-holds _ _ (range-cond (eqb (ownerOf w l) t) (own w l 32) w (range-own w l 32 (lit≤ tt) s) s)
 
-pub range-unwritten : (w : Waits) (t l : ℕ) → InRange w → InRange (unwritten w t l)
-unfolding unwritten
-range-unwritten w t l s = range-holds _ _ (range-cond (eqb (writerOf w l) t) (write w l 32) w (range-write w l 32 (lit≤ tt) s) s)
+pub range-write-released : (w : Waits) (t l : ℕ) → InRange w → InRange (writeReleased w t l)
+unfolding writeReleased
+range-write-released w t l s = range-holds _ _ (range-cond (eqb (writerOf w l) t) (write w l 32) w (range-write w l 32 (lit≤ tt) s) s)
 
 pub range-loosen : (w : Waits) (t l : ℕ) → InRange w → InRange (loosen w t l)
 unfolding loosen

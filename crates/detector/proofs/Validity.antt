@@ -1,13 +1,14 @@
 -- The test of a lent state is true exactly where the state is valid.
 use mathlib.Core.Path.{_≡_, refl, sym, ap, ap₂, _∙_, subst}
 use mathlib.Core.List.{List, map}
-use mathlib.Core.Bool.{Bool, true, false, cond, false≢true}
+use mathlib.Core.Bool.{true}
 use Prim.Native.Nat.{ℕ, _<_, _≤_}
 use native.Mathlib.Omega.{arith}
 use native.Mathlib.Decide.{decLt, ℕ-discrete}
 use lib.Dec.{ltb, lit<, lit≤}
 use lib.ListN.{getD, length, length-map, List·getD-eq-default}
 use borrow.Author.Tests.{eq-eqb, ne-eqb, lt-ltb, le-ltb, eqb-true, ltb-true}
+use Rattle.sets.proofs.Lists.{both}
 use Rattle.sets.specs.Below.{every}
 use Rattle.sets.proofs.Below.{every-at, every-of}
 use Rattle.waits.specs.Tables.{noSlot, InRange, intentOf, lockOf, ownerOf, writerOf}
@@ -19,11 +20,6 @@ use Rattle.detector.specs.declared.state.Pair.{Pair}
 use Rattle.detector.specs.declared.state.Queue.{Queue}
 use Rattle.detector.specs.declared.state.CvWait.{CvWait}
 use Rattle.detector.specs.declared.state.Detector.{Detector}
-
--- two tests, the second where the first holds
-pub both : (a b : Bool) → cond a b false ≡ true → (a ≡ true) × (b ≡ true)
-both true b e = (refl, e)
-both false b e = absurd (false≢true e)
 
 -- what holds of the n entries of a table, and of what a read outside it gives, holds of every read
 pub everywhere : {A : Type 0} (P : A → Type 0) (l : List A) (d : A) (n : ℕ) → length l ≡ n → P d → ((k : ℕ) → k < n → P (getD l k d)) → (k : ℕ) → P (getD l k d)

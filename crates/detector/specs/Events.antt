@@ -1,4 +1,4 @@
--- Every word and its rule; runs of events.
+-- Every word and its rule.
 use Rattle.detector.specs.Tables.{Tables, Answer}
 use Rattle.detector.specs.Mutex.{mutexAttempt, completeAcquire, releaseMutex, destroyMutex}
 use Rattle.detector.specs.RwLock.{readAttempt, completeRead, readTry, releaseRead, writeAttempt, completeWrite, releaseWrite, destroyRwLock}

@@ -61,11 +61,11 @@ releaseRead x t l =
     silent (withCounts x (cond (eqb (countOf c l t - 1) 0) (loosen (x .waits) t l) (x .waits)) (countDown c l t))
 
 -- wc t l: writer is t; then as mc from the holds on
-unfoldable pub written : Waits → ℕ → ℕ → Waits
-written w t l = gain (write w l t) t l
+unfoldable pub writeAcquired : Waits → ℕ → ℕ → Waits
+writeAcquired w t l = gain (write w l t) t l
 
 unfoldable pub completeWrite : Tables → ℕ → ℕ → Answer
-completeWrite x t l = said x (settle (x .«rwlock_readers») (written (x .waits) t l) l)
+completeWrite x t l = said x (settle (x .«rwlock_readers») (writeAcquired (x .waits) t l) l)
 
 -- wa t l o: took: as wc. Blocked: a hint becomes writer; with a reader or writer register RwWrite and validate, no
 -- filter; with neither, nothing, t's old intent stays
@@ -78,11 +78,11 @@ writeAttempt x t l Blocked = acquireWrite x (x .waits) t l
 writeAttempt x t l (Hinted o) = acquireWrite x (write (x .waits) l o) t l
 
 -- wr t l: writer none if it was t; l leaves t's holds; drop edges from l's waiters to t
-unfoldable pub unwritten : Waits → ℕ → ℕ → Waits
-unwritten w t l = unhold (cond (eqb (writerOf w l) t) (write w l 32) w) t l
+unfoldable pub writeReleased : Waits → ℕ → ℕ → Waits
+writeReleased w t l = unhold (cond (eqb (writerOf w l) t) (write w l 32) w) t l
 
 unfoldable pub releaseWrite : Tables → ℕ → ℕ → Answer
-releaseWrite x t l = silent (withWaits x (loosen (unwritten (x .waits) t l) t l))
+releaseWrite x t l = silent (withWaits x (loosen (writeReleased (x .waits) t l) t l))
 
 -- rd l: no writer, no readers, out of all holds, no waiters; intents and edges stay
 unfoldable pub noReaders : List ℕ → ℕ → List ℕ

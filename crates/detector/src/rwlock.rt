@@ -5,7 +5,7 @@ ghost use Prim.Native.Nat.{ℕ, _<_, _≤_};
 ghost use lib.ListN.{length};
 ghost use Rattle.waits.specs.Tables.{InRange, withGraph, write};
 ghost use Rattle.waits.specs.Owners.{countOf};
-ghost use Rattle.detector.specs.RwLock.{countUp, countDown, noReaders, unwritten, loosen, readAttempt, completeRead, readTry, releaseRead, writeAttempt, completeWrite, releaseWrite, destroyRwLock};
+ghost use Rattle.detector.specs.RwLock.{countUp, countDown, noReaders, writeReleased, loosen, readAttempt, completeRead, readTry, releaseRead, writeAttempt, completeWrite, releaseWrite, destroyRwLock};
 ghost use Rattle.detector.specs.Refusals.{hintOf, fullAttempt, fullTry, reportRoom};
 ghost use Rattle.detector.specs.State.{tables, Valid, Does};
 use crate::mutex::gained;
@@ -32,7 +32,7 @@ fn written_by(mut w: Waits, l: usize, t: usize) -> Waits
 
 fn write_given_up(mut w: Waits, t: usize, l: usize) -> Waits
     requires { ⌜ InRange w × (t < 32) × (l < 64) ⌝ }
-    ensures { λ r. ⌜ (r ≡ unwritten w t l) × InRange r ⌝ }
+    ensures { λ r. ⌜ (r ≡ writeReleased w t l) × InRange r ⌝ }
 {
     if w.rwlock_writer[l] as usize == t {
         w.rwlock_writer[l] = 32;

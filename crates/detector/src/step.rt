@@ -1,4 +1,4 @@
-// The entries: one event after another.
+// The entry: one event, in any state.
 ghost use mathlib.Core.Path.{_≡_};
 ghost use lib.ListN.{length};
 ghost use Rattle.detector.specs.Refusals.{refusal};
@@ -22,7 +22,7 @@ fn answered(d: Done) -> Answered
 
 impl Detector {
     // The inner entry, for a state that is known to be valid: no scan.
-    pub(crate) fn step_within(self, e: Event, buf: &mut [u8]) -> Answered
+    fn step_within(self, e: Event, buf: &mut [u8]) -> Answered
         requires { ⌜ Valid self ⌝ }
         ensures { λ r. ⌜ Answers (refusal (tables self) (length (now (buf .entry))) e) self e r (now (buf .entry)) (now (buf .exit)) ⌝ }
     {

@@ -112,7 +112,7 @@ fn count_edges(rows: [u32; 32]) -> usize
 
 impl Detector {
     // For each thread, those for which it truly waits.
-    pub(crate) fn true_waits(self) -> [u32; 32]
+    fn true_waits(self) -> [u32; 32]
         requires { ⌜ Valid self ⌝ }
         ensures { λ r. ⌜ r ≡ trueWaits (self .«rwlock_readers») (self .waits) ⌝ }
     {

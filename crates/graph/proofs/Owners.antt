@@ -5,7 +5,8 @@ use mathlib.Core.Option.{Option, none, some}
 use Prim.Native.Nat.{ℕ}
 use native.Mathlib.Omega.{arith}
 use Rattle.graph.specs.Graph.{Adding, adding, closing, stored, first, addNext}
-use Rattle.graph.specs.Code.{answered, sooner, added, addNextC, addAllC}
+use Rattle.graph.specs.Code.{answered, sooner, added, addNextC}
+use Rattle.graph.specs.declared.wait_for_graph.Added.{Added}
 use Rattle.graph.specs.declared.wait_for_graph.WaitForGraph.{WaitForGraph}
 use Rattle.graph.specs.declared.path.Answer.the-variants.{Found, Missing}
 
@@ -34,6 +35,10 @@ sooner-first none q = refl
 pub next-added : (t : ℕ) (k : Adding) (o : ℕ) → addNextC t (added k) o ≡ added (addNext t k o)
 unfolding addNextC addNext
 next-added t k o = rw sooner-first
+
+-- the code's walk, in its records
+unfoldable pub addAllC : ℕ → Added → List ℕ → Added
+addAllC t a os = foldl (addNextC t) a os
 
 pub all-added : (t : ℕ) (os : List ℕ) (k : Adding) → addAllC t (added k) os ≡ added (foldl (addNext t) k os)
 unfolding addAllC

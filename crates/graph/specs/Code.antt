@@ -1,6 +1,6 @@
 -- What the code's records stand for.
 use mathlib.Core.Path.{_≡_}
-use mathlib.Core.List.{List, [], _++_, foldl}
+use mathlib.Core.List.{List, [], _++_}
 use mathlib.Core.Option.{Option, none, some}
 use Prim.Native.Nat.{ℕ, _-_, _<_, _≤_, _^_}
 use lib.ListN.{getD, take, length, replicate}
@@ -68,6 +68,3 @@ added k = record { graph = k .graph; sought = answered (k .found) }
 -- one step of the code's own walk over owners
 unfoldable pub addNextC : ℕ → Added → ℕ → Added
 addNextC t a o = let n = added (addEdge (a .graph) t o) in record { graph = n .graph; sought = sooner (a .sought) (n .sought) }
-
-unfoldable pub addAllC : ℕ → Added → List ℕ → Added
-addAllC t a os = foldl (addNextC t) a os

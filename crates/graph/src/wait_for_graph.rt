@@ -58,7 +58,7 @@ impl WaitForGraph {
         self
     }
 
-    pub fn add_edge(self, from: usize, to: usize) -> Added
+    fn add_edge(self, from: usize, to: usize) -> Added
         requires { ⌜ (from < 32) × (to < 32) ⌝ }
         ensures { λ r. ⌜ r ≡ added (addEdge self from to) ⌝ }
     {
@@ -94,7 +94,7 @@ impl WaitForGraph {
         self
     }
 
-    pub fn remove_edge(mut self, from: usize, to: usize) -> WaitForGraph
+    fn remove_edge(mut self, from: usize, to: usize) -> WaitForGraph
         requires { ⌜ (from < 32) × (to < 32) ⌝ }
         ensures { λ r. ⌜ r ≡ removeEdge self from to ⌝ }
     {

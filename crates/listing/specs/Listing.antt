@@ -1,4 +1,4 @@
--- "One line for each table that is not empty: `table`, its name, its items, tabs between", items upward, the tables by name.
+-- One line for each table that is not empty: `table`, its name, its items, tabs between; items upward, the tables by name.
 use Prim.Native.Nat.{ℕ, zero, suc}
 use Prim.Native.Char.{code}
 use mathlib.Core.Bool.{cond}

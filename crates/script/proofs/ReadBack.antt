@@ -16,6 +16,7 @@ use Rattle.script.specs.Number.{digitsFrom, numberOf, same, outcomeOf}
 use Rattle.script.specs.Words.{Word, spelled, shape}
 use Rattle.script.specs.Lines.{afterTwo, afterOne, afterWord, lineOf}
 use Rattle.script.specs.Printed.{Parts, one, two, three, partsOf, outcomeText, partsText, eventText, hintsOf, numbersOf, Below, Within}
+use Rattle.sets.proofs.Lists.{both}
 use Rattle.waits.specs.declared.outcome.Outcome.{Outcome}
 use Rattle.waits.specs.declared.outcome.Outcome.the-variants as came
 use Rattle.waits.specs.declared.outcome.Tried.the-variants as tried
@@ -50,10 +51,6 @@ goodBelow (suc k) = cond (good k) (goodBelow k) false
 computed : goodBelow 1000 ≡ true
 unfolding numberOf digitsFrom outcomeOf same decimal decimalIn
 computed = refl
-
-both : (t u : Bool) → cond t u false ≡ true → (t ≡ true) × (u ≡ true)
-both true u h = (refl, h)
-both false u h = absurd (true≢false (sym h))
 
 good-at : (k n : ℕ) → goodBelow k ≡ true → n < k → good n ≡ true
 good-at zero n h g = absurd (omega arith)

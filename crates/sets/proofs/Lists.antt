@@ -2,7 +2,7 @@
 use mathlib.Core.Path.{_≡_, refl, sym, _∙_}
 use mathlib.Core.Logic.{_⊎_, inl, inr, _≢_}
 use mathlib.Core.List.{List, [], _∷_, _++_}
-use mathlib.Core.Bool.{Bool, true, false, cond, true≢false, false≢true}
+use mathlib.Core.Bool.{Bool, true, false, cond, false≢true}
 use Prim.Native.Nat.{ℕ, zero, suc, _≤_, _<_}
 use native.Mathlib.Omega.{arith}
 use lib.Dec.{eqb}
@@ -30,8 +30,10 @@ in-among x (y ∷ l) (inr m) = go (eqb x y) (in-among x l m)
     go true h = refl
     go false h = h
 
-pub not-among : (x : ℕ) (l : List ℕ) → among x l ≡ false → In x l → ⊥
-not-among x l h m = true≢false (sym (in-among x l m) ∙ h)
+-- two tests, the second where the first holds
+pub both : (a b : Bool) → cond a b false ≡ true → (a ≡ true) × (b ≡ true)
+both true b e = (refl, e)
+both false b e = absurd (false≢true e)
 
 -- ---- two lists joined
 

@@ -6,7 +6,7 @@ use mathlib.Core.List.{List, [], _∷_, _++_, append-assoc}
 use Prim.Native.Nat.{ℕ, suc, _+_, _-_, _≤_}
 use native.Mathlib.Omega.{arith}
 use lib.Dec.{ltb, lit≤}
-use lib.ListN.{length, take, drop}
+use lib.ListN.{length, take, drop, length-append}
 use borrow.Author.Tests.{ltb-true, ltb-false}
 use lib.Seq.{length-take-le, take-append-seam, drop-append-seam}
 use Rattle.answers.specs.Text.{Put}
@@ -16,19 +16,22 @@ use Rattle.transcript.specs.Lines.{linesOf}
 use Rattle.transcript.specs.Replay as replay
 use Rattle.transcript.specs.Replay.{limit, begun, after, lineText, lastText, textOf, replayText}
 use Rattle.transcript.specs.Code.{Begins, midOf, between}
-use Rattle.transcript.specs.Calls.{out, Calls, none, next, FeedsCoincide, AllPrinted, answersOf, lastOf, TextsAnswered}
+use Rattle.transcript.specs.Calls.{Calls, none, next, FeedsCoincide, FeedsMove, AllPrinted, answersOf, lastOf, TextsAnswered}
 use Rattle.transcript.specs.declared.run.Run.{Run}
 use Rattle.transcript.proofs.Text.{text-theorem}
+use Rattle.transcript.proofs.Turning.{slice-cut}
+use Rattle.transcript.proofs.Feeding.{feeds-move}
 
 -- what was put stands between the two places
-out-put : (d s d′ : List ℕ) (at r : ℕ) → r ≤ length d → Put d at s d′ r → out d′ at r ≡ s
+out-put : (d s d′ : List ℕ) (at r : ℕ) → r ≤ length d → Put d at s d′ r → between at r d′ ≡ s
 out-put d s d′ at r h p =
     let n : length (take at d) ≡ at = length-take-le at d (omega (arith, p .place)) in
     let w : d′ ≡ take at d ++ (s ++ drop r d) = put-whole (record { fits = omega (arith, p .place) }) p ∙ append-assoc (take at d) s (drop r d) in
     let k : r - at ≡ length s = omega (arith, p .place) in
     let b : drop at d′ ≡ s ++ drop r d =
     ap (drop at) w ∙ ap (λ (m : ℕ). drop m (take at d ++ (s ++ drop r d))) (sym n) ∙ drop-append-seam (take at d) (s ++ drop r d) in
-    ap₂ take k b ∙ take-append-seam s (drop r d)
+    let h′ : at ≤ length d′ = omega (arith, ap length w, length-append (take at d) (s ++ drop r d), n) in
+    sym (slice-cut at r d′ h′ (omega (arith, p .place))) ∙ ap₂ take k b ∙ take-append-seam s (drop r d)
 
 -- the calls, as the definitions go through the same parts
 module _ {e : Run} {k : List ℕ} where
@@ -46,6 +49,9 @@ feeds-coincide r c chunk from d at t u k l e f p q n =
     let part : between from (t .next) chunk ≡ between from (u .next) chunk = ap (λ (i : ℕ). between from i chunk) n in
     let same = puts-coincide d at _ e f (t .at) (u .at) (p .text) (subst (λ (x : List ℕ). Put d at (says (midOf r c) x) f (u .at)) (sym part) (q .text)) in
     (same .0, same .1, p .moves .after ∙ ap (fed (midOf r c)) part ∙ sym (q .moves .after))
+
+pub calls-move : FeedsMove
+calls-move r c chunk from d at t k e f h n w = feeds-move f h n w
 
 begun-mid : {r : Run} (c : List ℕ) → Begins r → midOf r c ≡ start
 begun-mid {r} c b = ap₂ (λ (n : ℕ) (u : replay.Run). mid (take n c) u) (b .have) (b .run)

@@ -35,7 +35,7 @@ use Rattle.transcript.proofs.Text.{fed-append, says-append, cut-result,
 slice-at : (from k : ℕ) (l : List ℕ) → from ≤ length l → between from (from + k) l ≡ take k (drop from l)
 slice-at from k l h = ap (drop from) (take-add from k l) ∙ drop-at (take from l) (take k (drop from l)) from (length-take-le from l h)
 
-slice-cut : (from e : ℕ) (l : List ℕ) → from ≤ length l → from ≤ e → take (e - from) (drop from l) ≡ between from e l
+pub slice-cut : (from e : ℕ) (l : List ℕ) → from ≤ length l → from ≤ e → take (e - from) (drop from l) ≡ between from e l
 slice-cut from e l h k = let z : from + (e - from) ≡ e = omega arith in sym (slice-at from (e - from) l h) ∙ ap (λ (n : ℕ). between from n l) z
 
 pub piece : (from e : ℕ) (l : List ℕ) → from ≤ length l → e ≡ from + length (upTo lineFeed (drop from l)) → between from e l ≡ upTo lineFeed (drop from l)

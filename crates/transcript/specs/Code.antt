@@ -1,11 +1,13 @@
 -- What the calls promise: the code's run means a middle of the text, and each turn is a step of it.
 use mathlib.Core.Path.{_≡_}
+use mathlib.Core.Logic.{_⊎_}
 use mathlib.Core.List.{List}
 use Prim.Native.Nat.{ℕ, _+_, _*_, _-_, _<_, _≤_}
 use lib.ListN.{length, take, drop}
 use Rattle.detector.specs.State.{tables, Valid}
+use Rattle.demands.specs.Reached.{room}
 use Rattle.answers.specs.Text.{Put}
-use Rattle.answers.specs.Answers.{answerRoom}
+use Rattle.answers.specs.Answers.{answerRoom, endRoom}
 use Rattle.transcript.specs.Replay.{limit, begun}
 use Rattle.transcript.specs.Replay as replay
 use Rattle.transcript.specs.Chunks.{carrySize, Mid, mid, fed, says}
@@ -30,6 +32,19 @@ pub record IsRun (r : Run) (carry : List ℕ) : Type 0 where
   pub lines : r .lines ≤ limit
   pub have : r .have ≤ carrySize
   pub long : length carry ≡ carrySize
+
+-- what a call of `feed_within` asks, with a chunk, an out buffer and a report buffer of these lengths
+pub record FeedAsks (r : Run) (carry : List ℕ) (chunk from out at buf : ℕ) : Type 0 where
+  pub kept : IsRun r carry
+  pub start : from ≤ chunk
+  pub place : at ≤ out
+  pub reports : buf ≡ room
+
+-- what one of `finish_within` asks: no line is left to answer, and there is room for the sums
+pub record EndAsks (r : Run) (carry : List ℕ) (out at : ℕ) : Type 0 where
+  pub kept : IsRun r carry
+  pub closed : (r .have ≡ 0) ⊎ (r .lines ≡ limit)
+  pub place : at + endRoom ≤ out
 
 -- the bytes of a chunk from one place to another
 abbrev pub between : ℕ → ℕ → List ℕ → List ℕ

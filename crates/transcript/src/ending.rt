@@ -26,7 +26,7 @@ fn put_sums(detector: Detector, lines: usize, out: &mut [u8], at: usize) -> usiz
 // The sums, where no line is left to answer: none is open, or the last one that is read is answered. A last line that
 // lacks its line feed is first fed one (`open-line`).
 pub fn finish_within(run: Run, carry: &[u8], out: &mut [u8], at: usize) -> usize
-    requires { ⌜ IsRun run (now carry) × ((run .have ≡ 0) ⊎ (run .lines ≡ limit)) × (at + endRoom ≤ length (now out)) ⌝ }
+    requires { ⌜ EndAsks run (now carry) (length (now out)) at ⌝ }
     ensures { λ r. ⌜ Put (now (out .entry)) at (ends (midOf run (now (carry .entry)))) (now (out .exit)) r × (r ≤ at + endRoom) ⌝ }
 {
     let s = run.detector;

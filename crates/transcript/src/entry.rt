@@ -9,8 +9,8 @@ use answers::END_ROOM;
 use detector::Detector;
 ghost use mathlib.Core.Path.{_≡_};
 ghost use mathlib.Core.Bool.{true};
-ghost use Rattle.transcript.specs.Code.{IsRun};
-ghost use Rattle.transcript.specs.Entries.{runTest, feedTest, endTest, FeedAsks, EndAsks, FeedsAny, EndsAny};
+ghost use Rattle.transcript.specs.Code.{IsRun, FeedAsks, EndAsks};
+ghost use Rattle.transcript.specs.Entries.{runTest, feedTest, endTest, FeedsAny, EndsAny};
 
 // Whether it is a run between two bytes of a text, with its carry.
 pub fn is_run(run: Run, carry: &[u8]) -> bool

@@ -1,4 +1,4 @@
-// A script's run over a chunk, line by line, and its end.
+// A script's run over a chunk, line by line.
 use crate::lines::keep;
 use crate::lines::line_of;
 use answers::ANSWER_ROOM;
@@ -54,8 +54,7 @@ pub fn feed_within(
     at: usize,
     buf: &mut [u8],
 ) -> Turned
-    requires { ⌜ IsRun run (now carry) × (length (now buf) ≡ room) ⌝ }
-    requires { ⌜ (from ≤ length (now chunk)) × (at ≤ length (now out)) ⌝ }
+    requires { ⌜ FeedAsks run (now carry) (length (now chunk)) from (length (now out)) at (length (now buf)) ⌝ }
     ensures { λ r. ⌜ Feeds run (now (carry .entry)) (now (chunk .entry)) from (now (out .entry)) at r (now (carry .exit)) (now (out .exit)) ⌝ }
 {
     let mut s = run.detector;

@@ -19,7 +19,7 @@ use Rattle.sets.specs.Lists.{In, among}
 use Rattle.sets.specs.Below.{those}
 use Rattle.sets.proofs.Digits.{bit-cases, bit-has, has-bit, not-bit, bit-with-same, bit-with-other, with-lt, bit-zero}
 use Rattle.sets.proofs.Walk.{upward-zero, upward-step, upward-bit, digit-upward}
-use Rattle.sets.proofs.Lists.{among-in, in-among, in-left, in-right, in-either}
+use Rattle.sets.proofs.Lists.{among-in, in-among, both, in-left, in-right, in-either}
 use Rattle.sets.proofs.Below.{last-or, those-in, in-those, those-same, upward-those}
 use Rattle.graph.specs.Search.{row}
 use Rattle.graph.specs.Graph.{one}
@@ -283,13 +283,9 @@ read-not c (x ∷ ls) h = go (unread c x) refl h (read-not c ls)
 nothing-in : (l : List ℕ) (x : ℕ) → In x l → nothing l ≡ false
 nothing-in (y ∷ l) x i = refl
 
-in-nothing : (l : List ℕ) → ((x : ℕ) → In x l → ⊥) → nothing l ≡ true
+pub in-nothing : (l : List ℕ) → ((x : ℕ) → In x l → ⊥) → nothing l ≡ true
 in-nothing [] h = refl
 in-nothing (x ∷ l) h = absurd (h x (inl refl))
-
-both-true : (b d : Bool) → cond b d false ≡ true → (b ≡ true) × (d ≡ true)
-both-true true d e = (refl, e)
-both-true false d e = absurd (false≢true e)
 
 pub all-read-passes : (c : List ℕ) (w : Waits) (p : List ℕ) → allRead c (upward 64 (commonMask (w .«thread_holds») 18446744073709551615 p)) ≡ passes c w p
 unfolding commonLocks
@@ -299,7 +295,7 @@ all-read-passes c w p = ap (allRead c) (all-hold w p) ∙ go (allRead c (those (
     go true e =
         sym (in-nothing (those (λ l. cond (allHold w l p) (unread c l) false) 64) (λ l i.
         let q = those-in (λ l. cond (allHold w l p) (unread c l) false) 64 l i in
-        let z = both-true (allHold w l p) (unread c l) (q .1) in
+        let z = both (allHold w l p) (unread c l) (q .1) in
         true≢false (sym (z .1) ∙ read-all c (those (λ l. allHold w l p) 64) e l (in-those (λ l. allHold w l p) 64 l (q .0) (z .0)))))
     go false e =
         let q = read-not c (those (λ l. allHold w l p) 64) e in

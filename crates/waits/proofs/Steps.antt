@@ -5,10 +5,11 @@ use mathlib.Core.Option.{none}
 use Prim.Native.Nat.{ℕ}
 use Rattle.graph.specs.Graph.{Adding}
 use Rattle.graph.specs.Code.{answered, added}
+use Rattle.graph.specs.declared.wait_for_graph.Added.{Added}
 use Rattle.graph.proofs.Owners.{sooner-first}
 use Rattle.waits.specs.Tables.{intentOf, InRange}
 use Rattle.waits.specs.Waiting.{Step, after, renewFor, renew, start, renewAll, refreshNext, refreshLocks}
-use Rattle.waits.specs.Code.{told, afterC, renewForC, renewC, renewAllC, refreshNextC, refreshAllC}
+use Rattle.waits.specs.Code.{told, afterC, renewForC, renewC, refreshNextC}
 use Rattle.waits.specs.declared.tables.Waits.{Waits}
 use Rattle.waits.specs.declared.tables.Linked.{Linked}
 use Rattle.waits.specs.declared.intent.Awaits.{Awaits}
@@ -24,6 +25,13 @@ renew-code c w k t = go (intentOf w t)
     go : (a : Awaits) → renewForC c w (added k) t a ≡ added (renewFor c w k t a)
     go Nothing = refl
     go (For i) = after-code k _
+
+-- the code's walks, in its records
+unfoldable pub renewAllC : List ℕ → Waits → Added → List ℕ → Added
+renewAllC c w a ts = foldl (renewC c w) a ts
+
+unfoldable pub refreshAllC : List ℕ → Linked → List ℕ → Linked
+refreshAllC c k ls = foldl (refreshNextC c) k ls
 
 all-code : (c : List ℕ) (w : Waits) (ts : List ℕ) (k : Adding) → renewAllC c w (added k) ts ≡ added (foldl (renew c w) k ts)
 unfolding renewAllC

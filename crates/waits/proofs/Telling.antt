@@ -17,7 +17,7 @@ use Rattle.waits.specs.Waiting.{Step, register, renewAll, refreshed, ref
 use Rattle.waits.specs.Report.{Report, Said, report, Entry, entryOf, entryBytes, entriesText, bytesOf, written, quiet, saying}
 use Rattle.waits.specs.Validate.{valid, awaitedLocks, checked, validate}
 use Rattle.waits.specs.Attempt.{judgedOf, judged, sievedOf, settle, block, blockMutex, mutexOn, readOn, writeOn, free, blockWrite, blockFor}
-use Rattle.waits.specs.Code.{told, laid, freeFor, sievedFor, attemptFor, Tells}
+use Rattle.waits.specs.Code.{told, laid, freeFor, passesFor, Tells}
 use Rattle.waits.specs.declared.tables.Waits.{Waits}
 use Rattle.waits.specs.declared.tables.Linked.{Linked}
 use Rattle.waits.specs.declared.tables.Told.{Told}
@@ -165,6 +165,14 @@ unfolding settle
 settle-told c w l k e = found-told (judgedOf c) (refresh c w l) _ (refresh-linked c w l k e)
 
 -- the one attempt of the code is each mode's rule
+abbrev pub sievedFor : WaitMode → List ℕ → Waits → Option (List ℕ) → Said
+sievedFor m c w none = quiet w
+sievedFor m c w (some p) = cond (passesFor m c w p) (validate c w p) (quiet w)
+
+abbrev pub attemptFor : List ℕ → Waits → ℕ → WaitIntent → Said
+attemptFor c w t i =
+    cond (freeFor (i .mode) c w (i .«lock_id»)) (quiet w) (let s = register c w t i in sievedFor (i .mode) c (s .waits) (s .found))
+
 sieved-mutex : (c : List ℕ) (w : Waits) (o : Option (List ℕ)) → sievedFor Mutex c w o ≡ sievedOf c w o
 sieved-mutex c w none = refl
 sieved-mutex c w (some p) = refl

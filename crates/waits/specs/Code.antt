@@ -2,7 +2,6 @@
 use mathlib.Core.Path.{_≡_}
 use mathlib.Core.List.{List, [], _∷_, foldl}
 use mathlib.Core.Bool.{Bool, true, false, cond}
-use mathlib.Core.Option.{Option, none, some}
 use Prim.Native.Nat.{ℕ, _+_, _≤_}
 use lib.Bits.{bitAnd}
 use lib.ListN.{length}
@@ -14,17 +13,15 @@ use Rattle.graph.specs.Code.{answered, added, sooner}
 use Rattle.graph.specs.declared.wait_for_graph.Added.{Added}
 use Rattle.waits.specs.Tables.{InRange, intentOf}
 use Rattle.waits.specs.Owners.{owners}
-use Rattle.waits.specs.Waiting.{Step, register, refresh}
+use Rattle.waits.specs.Waiting.{Step, refresh}
 use Rattle.waits.specs.Filter.{unread, passes}
-use Rattle.waits.specs.Report.{Said, quiet, written, reportBytes}
-use Rattle.waits.specs.Validate.{validate}
+use Rattle.waits.specs.Report.{Said, written, reportBytes}
 use Rattle.waits.specs.Attempt.{free}
 use Rattle.waits.specs.declared.tables.Waits.{Waits}
 use Rattle.waits.specs.declared.tables.Linked.{Linked}
 use Rattle.waits.specs.declared.tables.Told.{Told}
 use Rattle.waits.specs.declared.intent.Awaits.{Awaits}
 use Rattle.waits.specs.declared.intent.Awaits.the-variants.{Nothing, For}
-use Rattle.waits.specs.declared.intent.WaitIntent.{WaitIntent}
 use Rattle.waits.specs.declared.intent.WaitMode.{WaitMode}
 use Rattle.waits.specs.declared.intent.WaitMode.the-variants.{Mutex, RwRead, RwWrite}
 
@@ -58,14 +55,8 @@ renewForC c w a t (For i) = afterC a (added (addOwners t (clearWaitEdges (a .gra
 unfoldable pub renewC : List ℕ → Waits → Added → ℕ → Added
 renewC c w a t = renewForC c w a t (intentOf w t)
 
-unfoldable pub renewAllC : List ℕ → Waits → Added → List ℕ → Added
-renewAllC c w a ts = foldl (renewC c w) a ts
-
 unfoldable pub refreshNextC : List ℕ → Linked → ℕ → Linked
 refreshNextC c k l = let n = told (refresh c (k .waits) l) in record { waits = n .waits; sought = sooner (k .sought) (n .sought) }
-
-unfoldable pub refreshAllC : List ℕ → Linked → List ℕ → Linked
-refreshAllC c k ls = foldl (refreshNextC c) k ls
 
 -- a blocked try by its mode: a free lock blocks no writer, and a mutex's path must pass the filter
 abbrev pub freeFor : WaitMode → List ℕ → Waits → ℕ → Bool
@@ -77,14 +68,6 @@ abbrev pub passesFor : WaitMode → List ℕ → Waits → List ℕ → Bool
 passesFor Mutex c w p = passes c w p
 passesFor RwRead c w p = true
 passesFor RwWrite c w p = true
-
-abbrev pub sievedFor : WaitMode → List ℕ → Waits → Option (List ℕ) → Said
-sievedFor m c w none = quiet w
-sievedFor m c w (some p) = cond (passesFor m c w p) (validate c w p) (quiet w)
-
-abbrev pub attemptFor : List ℕ → Waits → ℕ → WaitIntent → Said
-attemptFor c w t i =
-    cond (freeFor (i .mode) c w (i .«lock_id»)) (quiet w) (let s = register c w t i in sievedFor (i .mode) c (s .waits) (s .found))
 
 -- MASKS
 -- the locks of m that all threads of p hold

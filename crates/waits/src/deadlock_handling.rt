@@ -48,7 +48,7 @@ impl Waits {
     }
 
     // Does the cycle pass: do its threads share no lock that nobody reads?
-    pub fn filter_cycle_by_common_locks(self, counts: &[u8; 2048], cycle: Path) -> bool
+    pub(crate) fn filter_cycle_by_common_locks(self, counts: &[u8; 2048], cycle: Path) -> bool
         requires { ⌜ Fit cycle ⌝ }
         ensures { λ r. ⌜ r ≡ passes (now (counts .entry)) self (listOf cycle) ⌝ }
     {
@@ -79,7 +79,7 @@ impl Waits {
     }
 
     // One report, from a place on.
-    pub fn report(self, cycle: Path, buf: &mut [u8], from: usize) -> Told
+    pub(crate) fn report(self, cycle: Path, buf: &mut [u8], from: usize) -> Told
         requires { ⌜ InRange self × Fit cycle × (from + reportBytes ≤ length (now buf)) ⌝ }
         ensures { λ r. ⌜ Tells r (now (buf .entry)) (now (buf .exit)) from (saying self (listOf cycle)) ⌝ }
     {

@@ -17,4 +17,3 @@ pub use tables::Owners;
 pub use tables::Told;
 pub use tables::Waits;
 pub use wait::place;
-pub use wait::reader_mask;

@@ -35,7 +35,7 @@ pub fn place(l: usize, t: usize) -> usize
 }
 
 // The readers of a lock, from its 32 counts.
-pub fn reader_mask(counts: &[u8; 2048], lock: usize) -> u32
+pub(crate) fn reader_mask(counts: &[u8; 2048], lock: usize) -> u32
     requires { ⌜ lock < 64 ⌝ }
     ensures { λ r. ⌜ upward 32 r ≡ readers (now (counts .entry)) lock ⌝ }
 {
@@ -105,7 +105,7 @@ impl Waits {
         w.unlink(t)
     }
 
-    pub fn set_wait_intent(self, t: usize, i: WaitIntent) -> Waits
+    fn set_wait_intent(self, t: usize, i: WaitIntent) -> Waits
         requires { ⌜ (t < 32) × InRange self × (i .«lock_id» < 64) ⌝ }
         ensures { λ r. ⌜ (r ≡ setIntent self t i) × InRange r ⌝ }
     {
@@ -150,7 +150,7 @@ impl Waits {
         }
     }
 
-    pub fn register_wait(self, counts: &[u8; 2048], t: usize, i: WaitIntent) -> Linked
+    pub(crate) fn register_wait(self, counts: &[u8; 2048], t: usize, i: WaitIntent) -> Linked
         requires { ⌜ (t < 32) × InRange self × (i .«lock_id» < 64) ⌝ }
         ensures { λ r. ⌜ (r ≡ told (register (now (counts .entry)) self t i)) × InRange (r .waits) ⌝ }
     {
@@ -248,7 +248,7 @@ impl Waits {
     }
 
     // Does t truly wait for u?
-    pub fn waits_for(self, counts: &[u8; 2048], t: usize, u: usize) -> bool
+    fn waits_for(self, counts: &[u8; 2048], t: usize, u: usize) -> bool
         requires { ⌜ (t < 32) × (u < 32) × InRange self ⌝ }
         ensures { λ r. ⌜ r ≡ waitsFor (now (counts .entry)) self t u ⌝ }
     {
@@ -266,7 +266,7 @@ impl Waits {
         threads::has(readers, u)
     }
 
-    pub fn validate_wait_cycle(self, counts: &[u8; 2048], cycle: Path) -> bool
+    fn validate_wait_cycle(self, counts: &[u8; 2048], cycle: Path) -> bool
         requires { ⌜ InRange self × Fit cycle ⌝ }
         ensures { λ r. ⌜ r ≡ valid (now (counts .entry)) self (listOf cycle) ⌝ }
     {
@@ -290,7 +290,7 @@ impl Waits {
     }
 
     // Reports the cycle if it is true; else refreshes the awaited locks and reports the path found then, if that is.
-    pub fn validated_deadlock_info(
+    pub(crate) fn validated_deadlock_info(
         self,
         counts: &[u8; 2048],
         cycle: Path,

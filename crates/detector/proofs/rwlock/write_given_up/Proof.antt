@@ -1,6 +1,6 @@
-use Rattle.detector.proofs.Ranges.{range-unwritten}
+use Rattle.detector.proofs.Ranges.{range-write-released}
 use Rattle.waits.proofs.Steps.{pack}
-use Rattle.detector.specs.RwLock.{unwritten}
+use Rattle.detector.specs.RwLock.{writeReleased}
 use borrow.Author.Needs.{needs}
 use mathlib.Core.Logic.{⊎-elim}
 use borrow.Author.Tests.{eq-eqb, ne-eqb}
@@ -32,7 +32,7 @@ element-write-w-2 : tie.Need-element-write-w-2
 element-write-w-2 c = search needs
 
 returns : tie.Need-returns
-unfolding unwritten
+unfolding writeReleased
 returns c =
     let s = c .before .before .before .before in
     pack
@@ -41,7 +41,7 @@ returns c =
     (λ w. rw (w .1, eq-eqb _ _ (w .0 .taken)))
     (λ w. rw (w .1, ne-eqb _ _ (w .0 .left)))
     (c .before .before .if1 .came)))
-    (range-unwritten _ _ _ (s .pre .0))
+    (range-write-released _ _ _ (s .pre .0))
 
 pub write-given-up-spec : {M : Type 1} → statement M
 write-given-up-spec =

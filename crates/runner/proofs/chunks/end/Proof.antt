@@ -7,7 +7,7 @@ use Rattle.runner.proofs.chunks.end.Statement.{statement}
 use Rattle.runner.proofs.chunks.end.Tie as tie
 
 finish-within-requires : tie.Need-finish-within-requires
-finish-within-requires c κs = search needs
+finish-within-requires c κs = let p = c .before .before .before .pre in record { kept = p .0; closed = p .1; place = omega (arith, p .2) }
 
 slice-reshare-prefix-write-all : tie.Need-slice-reshare-prefix-write-all
 slice-reshare-prefix-write-all c = search needs

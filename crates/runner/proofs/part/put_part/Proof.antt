@@ -17,7 +17,7 @@ feed-within-requires : tie.Need-feed-within-requires
 feed-within-requires c κs =
     let s = c .before .before .before .before .before .before .before .before .before in
     let e = c .before .before .before .before .part-end in
-    ((s .pre .0 .0, s .pre .1 .1), (omega (arith, e .ensures .onward, length-take-le (e .result) (s .args .chunk .now) (e .ensures .inside)), omega arith))
+    record { kept = s .pre .0 .0; start = omega (arith, e .ensures .onward, length-take-le (e .result) (s .args .chunk .now) (e .ensures .inside)); place = omega arith; reports = s .pre .1 .1 }
 
 same-length : tie.Need-same-length
 same-length c = search needs

@@ -10,8 +10,7 @@ may-feed-requires c κs = search needs
 
 feed-within-requires : tie.Need-feed-within-requires
 feed-within-requires c κs =
-    let a = c .before .before .before .before .may-feed .ensures .1 (c .before .before .before .if1 .taken) in
-    ((a .kept, a .reports), (a .start, a .place))
+    c .before .before .before .before .may-feed .ensures .1 (c .before .before .before .if1 .taken)
 
 same-length : tie.Need-same-length
 same-length c = search needs

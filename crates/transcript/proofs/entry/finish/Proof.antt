@@ -10,8 +10,7 @@ may-end-requires c κs = search needs
 
 finish-within-requires : tie.Need-finish-within-requires
 finish-within-requires c κs =
-    let a = c .before .before .may-end .ensures .1 (c .before .if1 .taken) in
-    (a .kept, a .closed, a .place)
+    c .before .before .may-end .ensures .1 (c .before .if1 .taken)
 
 same-length : tie.Need-same-length
 same-length c = search needs

@@ -26,7 +26,7 @@ abbrev μ-loop : tie.MeasureT-loop
 loop-holds : tie.Need-loop-holds Inv-loop μ-loop
 loop-holds c =
     let p = c .before .before .before .before .before .pre in
-    (goes-none _ _ _ _ _ _ (p .0 .0) (p .1 .0), p .0 .1, (λ i. omega (arith, c .before .slice-known3 .given i)), refl, refl, refl, p .1 .1)
+    (goes-none _ _ _ _ _ _ (p .kept) (p .start), p .reports, (λ i. omega (arith, c .before .slice-known3 .given i)), refl, refl, refl, p .place)
 
 same-length : tie.Need-same-length Inv-loop μ-loop
 same-length c = c .before .before .loop .inv .3

@@ -1,5 +1,5 @@
 use Rattle.detector.proofs.Promises.{redo, does-told, idle-tells, tells-length, as-taken, write-blocked}
-use Rattle.detector.specs.RwLock.{written, completeWrite, acquireWrite, writeAttempt}
+use Rattle.detector.specs.RwLock.{writeAcquired, completeWrite, acquireWrite, writeAttempt}
 use Rattle.detector.specs.Code.{hinted}
 use Rattle.detector.specs.State.{tables}
 use Rattle.waits.specs.Code.{Tells}
@@ -89,7 +89,7 @@ same-length-2 : tie.Need-same-length-2
 same-length-2 c = tells-length (met (c .before))
 
 returns-2 : tie.Need-returns-2
-unfolding completeWrite written
+unfolding completeWrite writeAcquired
 returns-2 c =
     let i = c .before .before .before .before .before .before in
     let s = i .before .before .before .before in

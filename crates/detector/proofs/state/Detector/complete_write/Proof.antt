@@ -1,5 +1,5 @@
 use Rattle.detector.proofs.Promises.{redo, does-told, idle-tells, tells-length}
-use Rattle.detector.specs.RwLock.{written, completeWrite}
+use Rattle.detector.specs.RwLock.{writeAcquired, completeWrite}
 use Rattle.waits.specs.Code.{Tells}
 use Rattle.waits.specs.Attempt.{settle}
 use borrow.Author.Needs.{needs}
@@ -44,7 +44,7 @@ same-length : tie.Need-same-length
 same-length c = tells-length (met (c .before))
 
 returns : tie.Need-returns
-unfolding completeWrite written
+unfolding completeWrite writeAcquired
 returns c =
     let s = c .before .before .before .before .before .before .before .before in
     redo (rw (c .before .before .before .before .gained .ensures .0, c .before .before .before .before .before .written-by .ensures .0))

@@ -1,4 +1,5 @@
-use Rattle.detector.proofs.Queues.{silent-does, queue-of, waiting-set, waiting-none}
+use Rattle.detector.proofs.Queues.{silent-does, waiting-set, waiting-none}
+use Rattle.detector.proofs.Numbers.{queue-at}
 use Rattle.detector.specs.Condvar.{leave, endWait}
 use borrow.Author.Needs.{needs}
 use mathlib.Core.Path.{sym, ap, _∙_}
@@ -40,7 +41,7 @@ returns c =
     let v = s .pre .0 in
     let q = c .before .before .before .left-by .ensures in
     let w = c .before .clear-wait-intent .ensures in
-    let f = q .0 ∙ ap (leave (s .args .t) (s .args .l)) (sym (queue-of d (s .args .c))) in
+    let f = q .0 ∙ ap (leave (s .args .t) (s .args .l)) (sym (queue-at d (s .args .c))) in
     let u = waiting-set (d .rest .«thread_wait_cv») (s .args .t) _ waiting-none (v .waiting) in
     λ b. rw (← w .0, ← c .without .ensures) (silent-does _ _ _ _ _ _ _ v (q .1) f u (w .1) b)
 

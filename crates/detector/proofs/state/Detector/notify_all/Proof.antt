@@ -1,4 +1,5 @@
-use Rattle.detector.proofs.Queues.{notify-does, queued-none, queue-of, wakes-start}
+use Rattle.detector.proofs.Queues.{notify-does, queued-none, wakes-start}
+use Rattle.detector.proofs.Numbers.{queue-at}
 use Rattle.detector.specs.Condvar.{notifyAll}
 use borrow.Author.Needs.{needs}
 use mathlib.Core.Path.{refl}
@@ -33,7 +34,7 @@ unfolding notifyAll
 returns c =
     let v = c .before .before .before .before .before .before .before .before .before .before .before .before .pre .0 in
     let s = c .before .before .before in
-    rw (s .before .before .before .before .empty-queue .ensures, queue-of _ _)
+    rw (s .before .before .before .before .empty-queue .ensures, queue-at _ _)
     (notify-does _ _ _ _ _ _ _ _ v queued-none refl (s .wake-all .ensures _ (wakes-start _ _ _ (v .waits))))
 
 pub notify-all-spec : {M : Type 1} → statement M

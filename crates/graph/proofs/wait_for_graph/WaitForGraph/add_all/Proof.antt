@@ -1,5 +1,4 @@
-use Rattle.graph.proofs.Owners.{all-added}
-use Rattle.graph.specs.Code.{addAllC}
+use Rattle.graph.proofs.Owners.{addAllC, all-added}
 use Rattle.graph.specs.Graph.{adding, addOwners}
 use Rattle.sets.proofs.Walk.{fold-step, fold-done}
 use Rattle.sets.specs.Sets.{upward}

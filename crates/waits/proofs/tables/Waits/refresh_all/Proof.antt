@@ -1,5 +1,4 @@
-use Rattle.waits.proofs.Steps.{refresh-all-code}
-use Rattle.waits.specs.Code.{refreshAllC}
+use Rattle.waits.proofs.Steps.{refreshAllC, refresh-all-code}
 use Rattle.waits.specs.Tables.{InRange}
 use Rattle.sets.proofs.Walk.{fold-step, fold-done}
 use Rattle.sets.specs.Sets.{upward}

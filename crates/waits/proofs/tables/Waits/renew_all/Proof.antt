@@ -1,5 +1,4 @@
-use Rattle.waits.proofs.Steps.{renew-all-code}
-use Rattle.waits.specs.Code.{renewAllC}
+use Rattle.waits.proofs.Steps.{renewAllC, renew-all-code}
 use Rattle.sets.proofs.Walk.{fold-step, fold-done}
 use Rattle.sets.specs.Sets.{upward}
 use borrow.Author.Needs.{needs}
