@@ -10,5 +10,6 @@ pub use answer::put_answer;
 pub use answer::put_end;
 pub use number::put_field;
 pub use number::put_number;
+pub use number::wide;
 pub use put::put_byte;
 pub use put::put_bytes;

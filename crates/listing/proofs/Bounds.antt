@@ -1,5 +1,5 @@
 -- How long the tables' lines are: a number below 1,000 has at most three digits.
-use mathlib.Core.Path.{_≡_, refl, sym, ap, _∙_}
+use mathlib.Core.Path.{_≡_, refl, ap, _∙_}
 use mathlib.Core.Bool.{Bool, true, false, cond}
 use mathlib.Core.Logic.{inl, inr}
 use mathlib.Core.List.{List, [], _∷_, _++_, map}
@@ -202,9 +202,6 @@ pub record Shaped (d : Detector) : Type 0 where
   pub holds : length (d .waits .«thread_holds») ≡ 32
   pub waits : length (d .rest .«thread_wait_cv») ≡ 32
   pub intents : length (d .waits .«thread_waits_for») ≡ 32
-
-pub unmapped : {A B : Type 0} (f : A → B) (l : List A) (n : ℕ) → length (map f l) ≡ n → length l ≡ n
-unmapped f l n e = sym (length-map l f) ∙ e
 
 -- a text of at most a bytes
 record Short (x : List ℕ) (a : ℕ) : Type 0 where

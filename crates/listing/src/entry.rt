@@ -2,6 +2,7 @@
 use crate::item::put_three;
 use crate::item::put_two;
 use crate::item::put_word;
+use answers::wide;
 use detector::CvWait;
 use detector::Pair;
 use waits::Awaits;
@@ -11,12 +12,6 @@ ghost use mathlib.Core.Path.{_≡_};
 ghost use mathlib.Core.List.{[], _∷_};
 ghost use Rattle.listing.specs.Listing.{ownerItem, readerItem, pairItem, waitItem, intentItem};
 ghost use Rattle.listing.specs.Code.{Roomy, Lists};
-
-fn wide(b: u8) -> usize
-    ensures { λ r. ⌜ r ≡ b ⌝ }
-{
-    b as usize
-}
 
 pub(crate) fn put_owner(
     out: &mut [u8],

@@ -11,6 +11,7 @@ use Rattle.listing.specs.Listing.{tablesText}
 use Rattle.transcript.specs.Lines.{lineFeed, linesOf}
 use Rattle.transcript.specs.Replay.{Run, Result, limit, begun, after, lineText, resultText}
 use Rattle.transcript.specs.Chunks.{carrySize, Mid, mid, start, step, fed, lastLine, together}
+use Rattle.transcript.proofs.Turning.{after-cut}
 use Rattle.transcript.proofs.Text.{fed-joined, cut-result, cut-more}
 use Rattle.runner.specs.Shown.{lineShown, shownOf, shownText, shown, shows, closes, showsAll, ShownTheorem}
 use Rattle.runner.specs.Code.{lineEnds}
@@ -29,10 +30,6 @@ shows-joined m [] = refl
 shows-joined m (t ∷ ts) = ap (λ (x : List ℕ). shows m t ++ x) (shows-joined (fed m t) ts) ∙ sym (shows-append m t (together ts))
 
 -- ---- a line cut where the carry ends shows as the whole line
-
-after-cut : (r : Run) (p : List ℕ) → after r (take carrySize p) ≡ after r p
-unfolding after
-after-cut r p = ap (λ (a : Result). record { lines = r .lines + 1; tables = a .tables }) (cut-result (r .tables) p)
 
 line-cut : (r : Run) (p : List ℕ) → lineShown r (take carrySize p) ≡ lineShown r p
 unfolding lineShown lineText

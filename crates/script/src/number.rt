@@ -1,4 +1,5 @@
 // Numbers of one to three digits.
+use answers::wide;
 ghost use mathlib.Core.Path.{_≡_};
 ghost use Rattle.script.specs.Number.{numberOf};
 
@@ -10,12 +11,6 @@ pub enum NumberRead {
 const ZERO: usize = b'0' as usize;
 
 const NINE: usize = b'9' as usize;
-
-fn wide(b: u8) -> usize
-    ensures { λ r. ⌜ r ≡ b ⌝ }
-{
-    b as usize
-}
 
 pub(crate) fn read_number(s: &[u8]) -> NumberRead
     ensures { λ r. ⌜ r ≡ numberOf (now (s .entry)) ⌝ }

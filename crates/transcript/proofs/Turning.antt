@@ -98,7 +98,7 @@ says-part (b ∷ y) m = says-pick (eqb b lineFeed) b y m refl (says-part y)
 
 -- ---- a line feed ends the line
 
-after-cut : (r : Run) (p : List ℕ) → after r (take carrySize p) ≡ after r p
+pub after-cut : (r : Run) (p : List ℕ) → after r (take carrySize p) ≡ after r p
 unfolding after
 after-cut r p = rw (cut-result (r .tables) p)
 

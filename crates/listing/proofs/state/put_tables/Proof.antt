@@ -1,6 +1,7 @@
 use mir.Syntax.{w8}
 use mir.Val.{Fits}
-use Rattle.listing.proofs.Bounds.{Shaped, tables-bound, unmapped}
+use Rattle.listing.proofs.Bounds.{Shaped, tables-bound}
+use Rattle.detector.proofs.Validity.{unmapped}
 use borrow.Author.Needs.{needs}
 use native.Mathlib.Omega.{arith}
 use lib.ListN.{getD}
