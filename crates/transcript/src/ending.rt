@@ -2,8 +2,6 @@
 use crate::run::Run;
 use answers::put_end;
 use detector::Detector;
-ghost use mathlib.Core.Path.{_≡_};
-ghost use mathlib.Core.Logic.{_⊎_};
 ghost use Prim.Native.Nat.{_+_, _≤_};
 ghost use lib.ListN.{length};
 ghost use Rattle.answers.specs.Text.{Put};
@@ -11,7 +9,7 @@ ghost use Rattle.answers.specs.Answers.{endRoom};
 ghost use Rattle.detector.specs.State.{tables, Valid};
 ghost use Rattle.transcript.specs.Replay.{limit, lastText};
 ghost use Rattle.transcript.specs.Chunks.{ends};
-ghost use Rattle.transcript.specs.Code.{IsRun, midOf};
+ghost use Rattle.transcript.specs.Code.{EndAsks, midOf};
 
 // Lines, edges stored, stuck threads.
 fn put_sums(detector: Detector, lines: usize, out: &mut [u8], at: usize) -> usize

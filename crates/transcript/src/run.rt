@@ -8,11 +8,8 @@ use detector::Event;
 use detector::Reply;
 use script::Line;
 use script::up_to;
-ghost use mathlib.Core.Path.{_≡_};
-ghost use Prim.Native.Nat.{_≤_};
 ghost use lib.ListN.{length};
-ghost use Rattle.demands.specs.Reached.{room};
-ghost use Rattle.transcript.specs.Code.{Begins, IsRun, Feeds};
+ghost use Rattle.transcript.specs.Code.{Begins, FeedAsks, Feeds};
 
 // Lines behind this one are not read.
 pub const LIMIT: usize = 1000000;
