@@ -5,13 +5,15 @@ use Prim.Native.Nat.{ℕ, zero, suc, _+_, _*_, _<_, _≤_, _^_}
 use native.Mathlib.Omega.{arith}
 use lib.ListN.{length, drop, getD, length-append}
 use lib.Seq.{getD-drop}
-use Rattle.answers.specs.Text.{text, decimal, withTab, tabbed, Room}
+use Rattle.text.specs.Bytes.{text}
+use Rattle.text.specs.Decimal.{decimal, withTab, tabbed}
+use Rattle.text.specs.Promises.{Room}
 use Rattle.waits.specs.Report.{Entry, entryBytes}
 use Rattle.detector.specs.Refusals.{reportRoom}
-use Rattle.detector.specs.State.{reportsOf}
+use Rattle.detector.specs.Promises.{reportsOf}
 use Rattle.answers.specs.Reports.{entryIn, entriesIn, reportIn, reportSize, reportsIn, reportsSize}
 use Rattle.answers.specs.Answers.{number, replyText, itemText, itemsText, cycleText, cyclesText, answerText, endText, itemRoom, answerRoom, endRoom}
-use Rattle.answers.proofs.Digits.{decimal-short}
+use Rattle.text.proofs.Digits.{decimal-short, decimal-bound}
 use Rattle.answers.proofs.Items.{reply-parts, end-parts, cycle-parts, item-parts, report-at}
 use Rattle.detector.specs.declared.reply.Reply.{Reply}
 use Rattle.detector.specs.declared.reply.Reply.the-variants.{Reports, Refused}
@@ -33,9 +35,6 @@ pub cycle-at-length : (b : List ℕ) (p n : ℕ) → n ≡ getD b p 0 → length
 cycle-at-length b p n e = cycle-length (reportIn (drop p b)) ∙ ap (λ (es : List Entry). 6 + length (itemsText es)) (report-at b p n e)
 
 -- ---- numbers of 64 bits, and bytes
-
-pub decimal-bound : (n : ℕ) → n < 2 ^ 64 → length (decimal n) ≤ 20
-decimal-bound n h = decimal-short 19 n (omega arith)
 
 pub reply-bound : (n : ℕ) (r : Reply) → n < 2 ^ 64 → number r < 2 ^ 64 → length (replyText n r) ≤ 45
 reply-bound n r h g = omega (arith, reply-length n (number r) r refl, decimal-bound n h, decimal-bound (number r) g)

@@ -1,7 +1,8 @@
 -- Document 01's session P1: what is printed for its last line, a refused line, and the end.
 use mathlib.Core.Path.{_≡_, refl}
 use mathlib.Core.List.{[], _∷_}
-use Rattle.answers.specs.Text.{text, decimal, decimalIn, tabbed}
+use Rattle.text.specs.Bytes.{text}
+use Rattle.text.specs.Decimal.{decimal, decimalIn, tabbed}
 use Rattle.answers.specs.Reports.{entriesIn, reportsIn}
 use Rattle.answers.specs.Answers.{replyText, itemText, cycleText, cyclesText, answerText, endText}
 use Rattle.detector.specs.declared.reply.Reply.the-variants.{Reports, Refused}

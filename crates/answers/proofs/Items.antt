@@ -6,7 +6,8 @@ use native.Mathlib.Omega.{arith}
 use native.Mathlib.Nat.{add-zero}
 use lib.ListN.{drop, getD}
 use lib.Seq.{getD-drop, drop-drop}
-use Rattle.answers.specs.Text.{text, decimal, withTab, tabbed, line}
+use Rattle.text.specs.Bytes.{text}
+use Rattle.text.specs.Decimal.{decimal, withTab, tabbed, line}
 use Rattle.waits.specs.Report.{Entry, entryBytes}
 use Rattle.answers.specs.Reports.{entryIn, entriesIn, reportIn, reportSize, reportsIn, reportsSize}
 use Rattle.answers.specs.Answers.{verdict, number, replyText, itemText, itemsText, cycleText, cyclesText, answerText, endText}

@@ -1,5 +1,3 @@
-pub mod Puts
-pub mod Digits
 pub mod Items
 pub mod Bounds
 pub mod Laid

@@ -1,12 +1,12 @@
 -- What replay prints: "Per line it prints line number, `ok`, number of reports; or line number, `no`, refusal. Then a line per report: `cycle` and
 -- thread:lock items. Last: `end`, lines (refused ones too), edges stored, stuck threads; tabs between all fields."
-use Prim.Native.Nat.{ℕ, _+_, _*_, _≤_}
+use Prim.Native.Nat.{ℕ, _+_, _*_}
 use mathlib.Core.List.{List, [], _∷_, _++_, map}
-use lib.ListN.{length}
-use Rattle.answers.specs.Text.{text, decimal, tabbed, line}
-use Rattle.answers.specs.Reports.{reportsIn, reportsSize}
+use Rattle.text.specs.Bytes.{text}
+use Rattle.text.specs.Decimal.{decimal, tabbed, line}
+use Rattle.answers.specs.Reports.{reportsIn}
 use Rattle.waits.specs.Report.{Entry}
-use Rattle.detector.specs.State.{reportsOf}
+use Rattle.detector.specs.Promises.{reportsOf}
 use Rattle.detector.specs.declared.reply.Reply.{Reply}
 use Rattle.detector.specs.declared.reply.Reply.the-variants.{Reports, Refused}
 
@@ -43,10 +43,6 @@ answerText n r b = replyText n r ++ cyclesText (reportsIn (reportsOf r) b)
 
 unfoldable pub endText : ℕ → ℕ → ℕ → List ℕ
 endText lines edges stuck = line (text "end" ∷ decimal lines ∷ decimal edges ∷ decimal stuck ∷ [])
-
--- the reports stand in the buffer
-abbrev pub Held : ℕ → List ℕ → Type 0
-Held n b = reportsSize n b ≤ length b
 
 -- room for an item and its tab, whatever its two bytes are; for the longest answer to one line, an answer of 45 bytes and 32 reports of 32 entries
 -- (8429); and for the last line

@@ -1,3 +1,3 @@
-pub mod Text
 pub mod Reports
 pub mod Answers
+pub mod Promises

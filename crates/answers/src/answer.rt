@@ -1,14 +1,15 @@
 // What is printed for a line of the script, and the last line.
 use crate::cycle::put_cycles;
-use crate::number::put_field;
-use crate::number::put_number;
-use crate::number::wide;
-use crate::put::put_byte;
-use crate::put::put_bytes;
+use text::put_field;
+use text::put_number;
+use text::wide;
+use text::put_byte;
+use text::put_bytes;
 use detector::Reply;
-ghost use Rattle.answers.specs.Text.{Room, Put};
-ghost use Rattle.detector.specs.State.{reportsOf};
-ghost use Rattle.answers.specs.Answers.{replyText, answerText, endText, Held};
+ghost use Rattle.text.specs.Promises.{Room, Put};
+ghost use Rattle.detector.specs.Promises.{reportsOf};
+ghost use Rattle.answers.specs.Answers.{replyText, answerText, endText};
+ghost use Rattle.answers.specs.Promises.{Held};
 
 // Room for an item and its tab; for the longest answer to one line, with 32 reports of 32 entries; and for the last line.
 const ITEM_ROOM: usize = 8;

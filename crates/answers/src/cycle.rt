@@ -1,17 +1,19 @@
 // A `cycle` line for each report in the report buffer.
-use crate::number::put_field;
-use crate::number::put_number;
-use crate::number::wide;
-use crate::put::put_byte;
-use crate::put::put_bytes;
+use text::put_field;
+use text::put_number;
+use text::wide;
+use text::put_byte;
+use text::put_bytes;
 use waits::Waits;
 ghost use mathlib.Core.Path.{_≡_};
 ghost use Prim.Native.Nat.{_+_, _*_, _≤_};
 ghost use lib.ListN.{length, drop, getD};
-ghost use Rattle.answers.specs.Text.{withTab, Room, Put};
+ghost use Rattle.text.specs.Decimal.{withTab};
+ghost use Rattle.text.specs.Promises.{Room, Put};
 ghost use Rattle.waits.specs.Report.{entryBytes};
 ghost use Rattle.answers.specs.Reports.{entryIn, entriesIn, reportIn, reportsIn};
-ghost use Rattle.answers.specs.Answers.{itemText, itemsText, cycleText, cyclesText, Held};
+ghost use Rattle.answers.specs.Answers.{itemText, itemsText, cycleText, cyclesText};
+ghost use Rattle.answers.specs.Promises.{Held};
 
 // A tab and the item of the entry at from.
 fn put_item(out: &mut [u8], at: usize, buf: &[u8], from: usize) -> usize

@@ -7,25 +7,28 @@ use native.Mathlib.Decide.{ℕ-discrete}
 use lib.ListN.{length, length-map}
 use borrow.Author.Tests.{ne-eqb}
 use Rattle.waits.specs.Report.{written}
-use Rattle.waits.specs.Code.{laid}
+use Rattle.waits.specs.Promises.{laid}
 use Rattle.waits.specs.declared.outcome.Outcome.{Outcome}
 use Rattle.waits.proofs.Telling.{laid-none}
 use Rattle.detector.specs.Tables.{Tables, Answer, empty}
-use Rattle.detector.specs.Refusals.{refusal}
-use Rattle.detector.specs.State.{pairsOf, tables, Valid, refusalOf, refusedBy, reportsOf, Steps}
+use Rattle.detector.specs.Refusals.{refusal, reportRoom}
+use Rattle.detector.specs.State.{pairsOf, tables, Valid}
+use Rattle.detector.specs.Promises.{refusalOf, refusedBy, reportsOf, Steps}
 use Rattle.detector.specs.declared.event.Event.{Event}
 use Rattle.detector.specs.declared.event.Event.the-variants.{MutexAttempt, RwWriteAttempt, RwReadAttempt}
 use Rattle.detector.specs.declared.state.Detector.{Detector}
 use Rattle.detector.specs.declared.reply.Answered.{Answered}
 use Rattle.detector.specs.declared.reply.Reply.{Reply}
 use Rattle.detector.specs.declared.reply.Reply.the-variants.{Refused}
-use Rattle.demands.specs.Reached.{answer, replied, room, reach, Reached}
+use Rattle.detector.specs.Effects.{answer, replied}
+use Rattle.demands.specs.Reached.{reach, Reached}
 use Rattle.demands.specs.Driven.{Call, Back, Driven, none, next, Starts}
-use Rattle.demands.specs.Typed.{Typed}
+use Rattle.detector.specs.Typed.{Typed}
 use Rattle.demands.specs.Demand1.{AllAnswered, AllAnsweredFromNew, EachAnswered, RefusedByNumber}
 use Rattle.demands.specs.Demand2.{onward, backs, reachBy, NoTwo, FedAsRuled, Coincide, StepsCoincide}
 use Rattle.demands.specs.Demand3.{ReportsTrue, Converse, MutexConverse, RwConverse, Attempted, Called, CalledHalf}
-use Rattle.demands.proofs.Events.{accepted-full, served, unserved}
+use Rattle.demands.proofs.Events.{accepted-full}
+use Rattle.detector.proofs.Serving.{served, unserved}
 use Rattle.demands.proofs.Invariants.{first-half}
 use Rattle.demands.proofs.Exact.{second-half}
 use Rattle.demands.proofs.StepAnswered.{step-answered, starts-typed, served-held}
@@ -64,10 +67,10 @@ refused-by-number d ev r b e s = record { number = number (refusalOf d (length b
 
 -- ---- the rules' run
 
-reach-snoc : (es : List Event) (e : Event) (x : Tables) → reach x (es ++ (e ∷ [])) ≡ answer (reach x es) room e .tables
+reach-snoc : (es : List Event) (e : Event) (x : Tables) → reach x (es ++ (e ∷ [])) ≡ answer (reach x es) reportRoom e .tables
 unfolding reach
 reach-snoc [] e x = refl
-reach-snoc (f ∷ es) e x = reach-snoc es e (answer x room f .tables)
+reach-snoc (f ∷ es) e x = reach-snoc es e (answer x reportRoom f .tables)
 
 -- one event more, with any buffer
 pub reached-next : (x : Tables) (n : ℕ) (e : Event) → Reached x → Reached (answer x n e .tables)
@@ -77,8 +80,8 @@ reached-next x n e r = go (ℕ-discrete (refusal x n e) 0)
     go (yes h) =
         record {
           events = r .events ++ (e ∷ []);
-          reaches = reach-snoc (r .events) e empty ∙ ap (λ (y : Tables). answer y room e .tables) (r .reaches)
-              ∙ ap (λ (a : Answer). a .tables) (served x room e (accepted-full x n e h) ∙ sym (served x n e h));
+          reaches = reach-snoc (r .events) e empty ∙ ap (λ (y : Tables). answer y reportRoom e .tables) (r .reaches)
+              ∙ ap (λ (a : Answer). a .tables) (served x reportRoom e (accepted-full x n e h) ∙ sym (served x n e h));
         }
     go (no h) = record { events = r .events; reaches = r .reaches ∙ ap (λ (a : Answer). a .tables) (sym (unserved x n e h)) }
 

@@ -24,7 +24,7 @@ use Rattle.detector.specs.declared.event.Event.{Event}
 use Rattle.detector.specs.declared.event.Event.the-variants.{MutexAttempt, MutexAcquired, MutexReleased, MutexExit, RwReadAttempt, RwReadAcquired, RwReadTry, RwReadReleased, RwWriteAttempt, RwWriteAcquired, RwWriteReleased, RwExit, CondvarSpawn, CondvarExit, CondvarWaitBegin, CondvarNotifyOne, CondvarNotifyAll, CondvarWaitEnd}
 use Rattle.detector.specs.declared.state.Pair.{Pair}
 use Rattle.detector.proofs.Numbers.{inside-next, accepted}
-use Rattle.demands.specs.Reached.{answer}
+use Rattle.detector.specs.Effects.{answer}
 use Rattle.demands.specs.Invariants.{Fine, Seated, Kept}
 use Rattle.demands.specs.Demand3.{Passed, TrueReport, Each}
 use Rattle.demands.proofs.Keeping.{acquired-keeps, write-acquired-keeps}
@@ -161,14 +161,6 @@ answers-apply x (CondvarNotifyAll c) n h k = answers-all x c k
 answers-apply x (CondvarWaitEnd t c l) n h k = tt
 
 -- ---- an event, refused or not
-
-pub served : (x : Tables) (room : ℕ) (e : Event) → refusal x room e ≡ 0 → answer x room e ≡ apply e x
-unfolding answer
-served x room e h = rw h
-
-pub unserved : (x : Tables) (room : ℕ) (e : Event) → (refusal x room e ≡ 0 → ⊥) → answer x room e ≡ silent x
-unfolding answer
-unserved x room e h = rw (ne-eqb (refusal x room e) 0 h)
 
 pub answers-answer : (x : Tables) (room : ℕ) (e : Event) → Kept x → AllTrue x e (answer x room e)
 unfolding answer

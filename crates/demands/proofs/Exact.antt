@@ -53,7 +53,7 @@ use Rattle.demands.specs.Invariants.{Fine, Kept}
 use Rattle.demands.specs.Demand3.{Exact, Alone, Apt, Shared, Spared, SecondHalf}
 use Rattle.demands.proofs.Fine.{unwaited-graph, fine-own, fine-write, fine-set}
 use Rattle.detector.proofs.Numbers.{accepted}
-use Rattle.demands.proofs.Events.{served}
+use Rattle.detector.proofs.Serving.{served}
 use Rattle.demands.proofs.Invariants.{reached-kept}
 
 -- a truly waits for b, in waits w with counts c

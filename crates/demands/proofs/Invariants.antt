@@ -8,12 +8,14 @@ use Rattle.detector.specs.Tables.{Tables, empty, noWait, blankWait}
 use Rattle.detector.specs.State.{Waiting}
 use Rattle.detector.specs.declared.event.Event.{Event}
 use Rattle.detector.specs.declared.state.Pair.{Pair}
-use Rattle.demands.specs.Reached.{answer, room, reach}
+use Rattle.detector.specs.Effects.{answer}
+use Rattle.detector.specs.Refusals.{reportRoom}
+use Rattle.demands.specs.Reached.{reach}
 use Rattle.demands.specs.Invariants.{Kept, ReachedKept, ReachedBrief}
 use Rattle.demands.specs.Demand3.{FirstHalf}
 use Rattle.demands.proofs.Keeping.{answer-keeps}
 use Rattle.demands.proofs.Fine.{fine-empty, blank, fine-rules}
-use Rattle.demands.proofs.Brief.{all-brief}
+use Rattle.detector.proofs.Brief.{all-brief}
 use Rattle.demands.proofs.Events.{answers-answer}
 
 pub kept-empty : Kept empty
@@ -42,7 +44,7 @@ kept-empty =
 kept-reach : (es : List Event) (x : Tables) → Kept x → Kept (reach x es)
 unfolding reach
 kept-reach [] x k = k
-kept-reach (e ∷ es) x k = kept-reach es (answer x room e .tables) (answer-keeps fine-rules x k room e)
+kept-reach (e ∷ es) x k = kept-reach es (answer x reportRoom e .tables) (answer-keeps fine-rules x k reportRoom e)
 
 pub reached-kept : ReachedKept
 reached-kept x r = subst Kept (r .reaches) (kept-reach (r .events) empty kept-empty)

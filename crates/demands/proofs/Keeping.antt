@@ -35,7 +35,7 @@ use Rattle.detector.specs.declared.state.Pair.{Pair}
 use Rattle.detector.specs.declared.state.CvWait.{CvWait}
 use Rattle.detector.proofs.Numbers.{accepted}
 use Rattle.detector.proofs.Queues.{waiting-none, waiting-some}
-use Rattle.demands.specs.Reached.{answer}
+use Rattle.detector.specs.Effects.{answer}
 use Rattle.demands.specs.Invariants.{Counts, Seated, KeptWith}
 
 -- each rule of waiting keeps P

@@ -3,8 +3,6 @@
 pub mod Sessions
 -- what the rules of waiting, the judgements and the events keep
 pub mod Keeping
--- all-brief, valid-brief
-pub mod Brief
 pub mod Held
 pub mod Fine
 pub mod Reports

@@ -2,7 +2,8 @@
 use mathlib.Core.Path.{refl}
 use mathlib.Core.List.{List}
 use Rattle.demands.specs.Sessions.{Session, Seen, SessionsHold, FurtherHold, WaitsHold, ruled, told, run, sessions, further, seen, edgesIn, intentsIn}
-use Rattle.demands.specs.Reached.{answer, reach}
+use Rattle.detector.specs.Effects.{answer}
+use Rattle.demands.specs.Reached.{reach}
 use Rattle.detector.specs.Refusals.{refusal, outside}
 use Rattle.detector.specs.Stuck.{stuckCount, trueWaits, anyBack}
 use Rattle.detector.specs.Mutex.{acquired, completeAcquire, acquireSlow, released, releaseMutex, clearNaming, unholdAll, purge, destroyMutex}

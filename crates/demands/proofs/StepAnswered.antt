@@ -8,10 +8,11 @@ use native.Mathlib.Decide.{decLt}
 use lib.Dec.{lit<, lit≤}
 use lib.ListN.{getD, length, take, replicate, length-append, length-map, List·getD-eq-default}
 use Rattle.waits.specs.Report.{written}
-use Rattle.waits.specs.Code.{laid}
+use Rattle.waits.specs.Promises.{laid}
 use Rattle.detector.specs.Tables.{Tables, Answer, empty, noPair, queueOf}
 use Rattle.detector.specs.Events.{apply}
-use Rattle.detector.specs.State.{pairsOf, tables, blankQueue, Queued, Valid, validTest, refusalOf, Answers}
+use Rattle.detector.specs.State.{pairsOf, tables, blankQueue, Queued, Valid, validTest}
+use Rattle.detector.specs.Promises.{refusalOf, Answers}
 use Rattle.detector.specs.declared.event.Event.{Event}
 use Rattle.detector.specs.declared.state.Detector.{Detector}
 use Rattle.detector.specs.declared.state.Queue.{Queue}
@@ -24,7 +25,7 @@ use Rattle.detector.proofs.Queues.{pairs-none}
 use Rattle.detector.proofs.Serving.{refuse, tested, untested}
 use Rattle.demands.specs.Invariants.{Seated, KeptWith}
 use Rattle.demands.specs.Driven.{Starts}
-use Rattle.demands.specs.Typed.{Typed}
+use Rattle.detector.specs.Typed.{Typed}
 use Rattle.demands.specs.Demand1.{StepAnswered}
 use Rattle.demands.proofs.Keeping.{served-keeps}
 use Rattle.demands.proofs.Held.{Held, held-rules}

@@ -5,12 +5,12 @@ use mathlib.Core.Path.{_≡_}
 use mathlib.Core.List.{List}
 use Prim.Native.Nat.{ℕ, _<_}
 use lib.ListN.{length}
-use Rattle.detector.specs.State.{refusalOf, refusedBy, Steps}
+use Rattle.detector.specs.Promises.{refusalOf, refusedBy, Steps}
 use Rattle.detector.specs.declared.event.Event.{Event}
 use Rattle.detector.specs.declared.state.Detector.{Detector}
 use Rattle.detector.specs.declared.reply.Answered.{Answered}
 use Rattle.demands.specs.Driven.{Call, Back, Driven, Starts}
-use Rattle.demands.specs.Typed.{Typed}
+use Rattle.detector.specs.Typed.{Typed}
 
 -- AN ANSWER AND AN END (`step-answered`): from every state that the types hold, valid or not, and for every event and buffer there
 -- is a result that keeps the promise of a step, and its state is again one that the types hold. Over every record there

@@ -6,15 +6,17 @@ use mathlib.Core.List.{List, [], _∷_}
 use Prim.Native.Nat.{ℕ}
 use lib.ListN.{length}
 use Rattle.waits.specs.Report.{written}
-use Rattle.waits.specs.Code.{laid}
+use Rattle.waits.specs.Promises.{laid}
 use Rattle.detector.specs.Tables.{Tables, empty}
-use Rattle.detector.specs.State.{tables, Valid, refusedBy, Steps}
+use Rattle.detector.specs.State.{tables, Valid}
+use Rattle.detector.specs.Promises.{refusedBy, Steps}
 use Rattle.detector.specs.declared.event.Event.{Event}
 use Rattle.detector.specs.declared.state.Detector.{Detector}
 use Rattle.detector.specs.declared.reply.Answered.{Answered}
-use Rattle.demands.specs.Reached.{answer, replied, Reached}
+use Rattle.detector.specs.Effects.{answer, replied}
+use Rattle.demands.specs.Reached.{Reached}
 use Rattle.demands.specs.Driven.{Call, Back, Driven, Starts}
-use Rattle.demands.specs.Typed.{Typed}
+use Rattle.detector.specs.Typed.{Typed}
 
 -- THE RULES' RUN over the same calls: the reply, and every byte of the buffer
 abbrev pub backOf : Tables → Call → Back

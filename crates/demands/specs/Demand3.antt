@@ -17,7 +17,7 @@ use Rattle.waits.specs.Waiting.{register}
 use Rattle.waits.specs.Validate.{names}
 use Rattle.waits.specs.Attempt.{mutexOn}
 use Rattle.waits.specs.Report.{Report, Entry, entriesOf, written}
-use Rattle.waits.specs.Code.{laid}
+use Rattle.waits.specs.Promises.{laid}
 use Rattle.waits.specs.declared.tables.Waits.{Waits}
 use Rattle.waits.specs.declared.intent.WaitIntent.{WaitIntent}
 use Rattle.waits.specs.declared.intent.Awaits.the-variants.{For}
@@ -26,13 +26,15 @@ use Rattle.waits.specs.declared.outcome.Outcome.the-variants.{Took, Blocked, Hi
 use Rattle.detector.specs.Tables.{Tables, queueOf}
 use Rattle.detector.specs.Condvar.{wakeAll}
 use Rattle.detector.specs.Refusals.{refusal}
-use Rattle.detector.specs.State.{tables, reportsOf, refusedBy, Steps}
+use Rattle.detector.specs.State.{tables}
+use Rattle.detector.specs.Promises.{reportsOf, refusedBy, Steps}
 use Rattle.detector.specs.Stuck.{Truly}
 use Rattle.detector.specs.declared.event.Event.{Event}
 use Rattle.detector.specs.declared.event.Event.the-variants.{MutexAttempt, RwReadAttempt, RwWriteAttempt, CondvarNotifyAll}
 use Rattle.detector.specs.declared.state.Detector.{Detector}
 use Rattle.detector.specs.declared.reply.Answered.{Answered}
-use Rattle.demands.specs.Reached.{answer, Reached}
+use Rattle.detector.specs.Effects.{answer}
+use Rattle.demands.specs.Reached.{Reached}
 use Rattle.demands.specs.Driven.{Call, Back, Driven, Starts}
 
 -- A TRUE CYCLE in waits w with reader counts c

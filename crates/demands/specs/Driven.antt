@@ -4,7 +4,8 @@ use mathlib.Core.Path.{_≡_}
 use mathlib.Core.List.{List, [], _∷_}
 use Prim.Native.Nat.{ℕ}
 use Rattle.detector.specs.Tables.{empty}
-use Rattle.detector.specs.State.{tables, Valid, Steps}
+use Rattle.detector.specs.State.{tables, Valid}
+use Rattle.detector.specs.Promises.{Steps}
 use Rattle.detector.specs.declared.event.Event.{Event}
 use Rattle.detector.specs.declared.state.Detector.{Detector}
 use Rattle.detector.specs.declared.reply.Answered.{Answered}

@@ -4,7 +4,6 @@ pub mod Reached
 pub mod Sessions
 pub mod Invariants
 pub mod Driven
-pub mod Typed
 pub mod Demand1
 pub mod Demand2
 pub mod Demand3

@@ -15,12 +15,13 @@ use Rattle.waits.specs.declared.outcome.Outcome.{Outcome}
 use Rattle.waits.specs.declared.outcome.Outcome.the-variants.{Took, Blocked, Hinted}
 use Rattle.waits.specs.declared.outcome.Tried.the-variants.{Taken}
 use Rattle.detector.specs.Tables.{Tables, Answer, empty, noWait, blankWait}
-use Rattle.detector.specs.Refusals.{refusal}
+use Rattle.detector.specs.Refusals.{refusal, reportRoom}
 use Rattle.detector.specs.Stuck.{stuckCount}
 use Rattle.detector.specs.declared.event.Event.{Event}
 use Rattle.detector.specs.declared.event.Event.the-variants.{MutexAttempt, MutexAcquired, MutexReleased, MutexExit, RwReadAttempt, RwReadAcquired, RwReadTry, RwReadReleased, RwWriteAttempt, RwWriteAcquired, RwWriteReleased, RwExit, CondvarSpawn, CondvarExit, CondvarWaitBegin, CondvarNotifyOne, CondvarNotifyAll, CondvarWaitEnd}
 use Rattle.detector.specs.declared.state.CvWait.{CvWait}
-use Rattle.demands.specs.Reached.{answer, room, reach}
+use Rattle.detector.specs.Effects.{answer}
+use Rattle.demands.specs.Reached.{reach}
 
 -- two numbers side by side: a thread and the lock that it awaits, or an edge
 abbrev pub Pairs : Type 0
@@ -65,7 +66,7 @@ seen n a =
 -- what the rules say of events one after the other
 unfoldable pub run : Tables → List Event → List Seen
 run x [] = []
-run x (e ∷ es) = let a = answer x room e in seen (refusal x room e) a ∷ run (a .tables) es
+run x (e ∷ es) = let a = answer x reportRoom e in seen (refusal x reportRoom e) a ∷ run (a .tables) es
 
 -- THE WORDS, as document 01 writes them
 abbrev pub took : Outcome

@@ -1,4 +1,2 @@
-// Theorems about the rules and about what the detector's calls promise. The code is there for a contract: what the types hold.
-mod types;
-
-pub use types::typed;
+// Theorems about the rules and about what the detector's calls promise: specs/ has the statements, proofs/ the proofs. There is no
+// code here, and no other crate uses this one.

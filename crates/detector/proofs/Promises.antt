@@ -11,7 +11,7 @@ use borrow.Author.Tests.{eq-eqb}
 use Rattle.waits.specs.Tables.{InRange, waitersOf, ownerOf, writerOf, own, write}
 use Rattle.waits.specs.Report.{Said, written}
 use Rattle.waits.specs.Attempt.{settle}
-use Rattle.waits.specs.Code.{Tells}
+use Rattle.waits.specs.Promises.{Tells}
 use Rattle.waits.specs.declared.tables.Waits.{Waits}
 use Rattle.waits.specs.declared.tables.Told.{Told}
 use Rattle.waits.specs.declared.outcome.Outcome.{Outcome}
@@ -22,7 +22,8 @@ use Rattle.detector.specs.Mutex.{acquireSlow, mutexAttempt}
 use Rattle.detector.specs.RwLock.{countDown, acquireRead, readAttempt, acquireWrite, writeAttempt}
 use Rattle.waits.specs.Owners.{place, countOf}
 use Rattle.detector.specs.Refusals.{fullCount}
-use Rattle.detector.specs.State.{tables, blankQueue, Queued, Waiting, Valid, Does}
+use Rattle.detector.specs.State.{tables, blankQueue, Queued, Waiting, Valid}
+use Rattle.detector.specs.Promises.{Does}
 use Rattle.waits.specs.Tables as waiting
 use Rattle.waits.proofs.Laws.{range-empty}
 use Rattle.detector.specs.declared.state.Queue.{Queue}

@@ -16,14 +16,15 @@ use Rattle.sets.proofs.Tables.{set-all, fold-append}
 use Rattle.waits.specs.Tables.{InRange, ownerOf}
 use Rattle.waits.specs.Report.{Report, written, bytesOf}
 use Rattle.waits.specs.Attempt.{blockMutex}
-use Rattle.waits.specs.Code.{Tells, laid}
+use Rattle.waits.specs.Promises.{Tells, laid}
 use Rattle.waits.specs.declared.tables.Waits.{Waits}
 use Rattle.waits.specs.declared.tables.Told.{Told}
 use Rattle.waits.proofs.Telling.{laid-none, laid-append}
 use Rattle.detector.proofs.Numbers.{queue-at}
 use Rattle.detector.specs.Tables.{noPair, noWait, blankWait, queueOf, withQueue, withWoken}
 use Rattle.detector.specs.Condvar.{condvarAt, forget, Woken, attempted, wake, wakeAll, notify, notifyOne, isPair, leave}
-use Rattle.detector.specs.State.{pairsOf, tables, blankQueue, Queued, Waiting, Valid, Does, Wakes}
+use Rattle.detector.specs.State.{pairsOf, tables, blankQueue, Queued, Waiting, Valid}
+use Rattle.detector.specs.Promises.{Does, Wakes}
 use Rattle.detector.specs.Code.{emptyQueue, tailOf}
 use Rattle.detector.specs.declared.state.Pair.{Pair}
 use Rattle.detector.specs.declared.state.Queue.{Queue}

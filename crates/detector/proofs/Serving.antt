@@ -6,7 +6,8 @@ use native.Mathlib.Omega.{arith}
 use Rattle.detector.specs.Events.{apply}
 use mathlib.Core.Bool.{true, false, cond}
 use Rattle.detector.specs.Refusals.{refusal}
-use Rattle.detector.specs.State.{tables, Does, Answers, validTest, refusalOf}
+use Rattle.detector.specs.State.{tables, validTest}
+use Rattle.detector.specs.Promises.{Does, Answers, refusalOf}
 use Rattle.detector.specs.Code.{served}
 use Rattle.detector.specs.declared.event.Event.{Event}
 use Rattle.detector.specs.declared.state.Detector.{Detector}
@@ -40,3 +41,13 @@ tested d room ev e = sym (ap (λ b. cond b (refusal (tables d) room ev) 2) e)
 pub untested : (d : Detector) (room : ℕ) (ev : Event) → validTest d ≡ false → 2 ≡ refusalOf d room ev
 unfolding refusalOf
 untested d room ev e = sym (ap (λ b. cond b (refusal (tables d) room ev) 2) e)
+
+-- ---- an event, refused or not
+
+pub served : (x : Tables) (room : ℕ) (e : Event) → refusal x room e ≡ 0 → answer x room e ≡ apply e x
+unfolding answer
+served x room e h = rw h
+
+pub unserved : (x : Tables) (room : ℕ) (e : Event) → (refusal x room e ≡ 0 → ⊥) → answer x room e ≡ silent x
+unfolding answer
+unserved x room e h = rw (ne-eqb (refusal x room e) 0 h)

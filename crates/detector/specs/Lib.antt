@@ -5,6 +5,10 @@ pub mod RwLock
 pub mod Condvar
 pub mod Events
 pub mod Refusals
+pub mod Effects
 pub mod State
+pub mod Brief
+pub mod Typed
 pub mod Stuck
 pub mod Code
+pub mod Promises

@@ -1,4 +1,4 @@
--- What the code's state means, what it keeps to, and what the calls promise.
+-- What the code's state means, and what a valid one keeps to.
 use mathlib.Core.Path.{_≡_}
 use mathlib.Core.List.{List, [], map}
 use mathlib.Core.Bool.{Bool, false, cond}
@@ -7,27 +7,12 @@ use lib.Dec.{ltb, eqb}
 use lib.ListN.{getD, length, take}
 use Rattle.sets.specs.Below.{every}
 use Rattle.waits.specs.Tables.{InRange, intentOf, lockOf, ownerOf, writerOf}
-use Rattle.waits.specs.Report.{written}
-use Rattle.waits.specs.Code.{laid}
 use Rattle.waits.specs.declared.tables.Waits.{Waits}
-use Rattle.detector.specs.Tables.{Tables, Answer, noPair, blankWait}
-use Rattle.detector.specs.Events.{apply}
-use Rattle.detector.specs.Refusals.{refusal}
-use Rattle.detector.specs.Condvar.{Woken}
-use Rattle.detector.specs.Stuck.{stuckCount}
-use Rattle.detector.specs.declared.event.Event.{Event}
+use Rattle.detector.specs.Tables.{Tables, noPair, blankWait}
 use Rattle.detector.specs.declared.state.Detector.{Detector}
 use Rattle.detector.specs.declared.state.Queue.{Queue}
 use Rattle.detector.specs.declared.state.Pair.{Pair}
 use Rattle.detector.specs.declared.state.CvWait.{CvWait}
-use Rattle.detector.specs.declared.condvar.Awake.{Awake}
-use Rattle.detector.specs.declared.reply.Done.{Done}
-use Rattle.detector.specs.declared.reply.Answered.{Answered}
-use Rattle.detector.specs.declared.reply.Count.{Count}
-use Rattle.detector.specs.declared.reply.Count.the-variants as count
-use Rattle.detector.specs.declared.reply.Count.the-variants.{Threads}
-use Rattle.detector.specs.declared.reply.Reply.{Reply}
-use Rattle.detector.specs.declared.reply.Reply.the-variants.{Reports, Refused}
 
 -- MEANING: the tables are the state's own but for the queues, which are lists of pairs
 abbrev pub pairsOf : Queue → List Pair
@@ -90,49 +75,3 @@ validTest d =
     (cond (every (λ c. queueTest (getD (d .rest .«cv_waiters») c blankQueue)) 16)
     (every (λ t. waitTest (getD (d .rest .«thread_wait_cv») t blankWait)) 32) false)
     false
-
--- AN EVENT'S PROMISE: the state means the rule's tables and stays valid; the number of reports; every byte of the
--- buffer, b before and e after
-pub record Does (r : Done) (b e : List ℕ) (a : Answer) : Type 0 where
-  pub state : tables (r .detector) ≡ a .tables
-  pub count : r .reports ≡ length (a .reports)
-  pub bytes : e ≡ laid b 0 (written (a .reports))
-  pub valid : Valid (r .detector)
-
--- a walk over a queue
-pub record Wakes (r : Awake) (b e : List ℕ) (s : Woken) : Type 0 where
-  pub waits : r .waits ≡ s .waits
-  pub woken : r .woken ≡ s .woken
-  pub count : r .reports ≡ length (s .reports)
-  pub bytes : e ≡ laid b 0 (written (s .reports))
-  pub used : r .used ≡ length (written (s .reports))
-  pub inRange : InRange (r .waits)
-
--- REFUSALS 2 to 8 of a step, lowest first; 0 for none
-unfoldable pub refusalOf : Detector → ℕ → Event → ℕ
-refusalOf d room e = cond (validTest d) (refusal (tables d) room e) 2
-
--- the stuck threads of any state, or refusal 2
-abbrev pub stuckOf : Detector → Count
-stuckOf d = cond (validTest d) (Threads (stuckCount (tables d))) (count.Refused 2)
-
--- a reply's case: document 01's refusal number, 0 where it is served; and the number of reports
-abbrev pub refusedBy : Reply → ℕ
-refusedBy (Reports n) = 0
-refusedBy (Refused k) = k
-
-abbrev pub reportsOf : Reply → ℕ
-reportsOf (Reports n) = n
-reportsOf (Refused k) = 0
-
--- what an answer with refusal number n says: a refusal gives its number and the same state and writes nothing; an
--- accepted event is served by its rule
-pub record Answers (n : ℕ) (d : Detector) (ev : Event) (r : Answered) (b e : List ℕ) : Type 0 where
-  pub refused : (0 < n) → (r ≡ record { detector = d; reply = Refused n }) × (e ≡ b)
-  pub served : (n ≡ 0)
-      → (r .reply ≡ Reports (length (apply ev (tables d) .reports)))
-      × Does (record { detector = r .detector; reports = length (apply ev (tables d) .reports) }) b e (apply ev (tables d))
-
--- A STEP'S PROMISE, for any state, any event and any buffer
-abbrev pub Steps : Detector → Event → Answered → List ℕ → List ℕ → Type 0
-Steps d ev r b e = Answers (refusalOf d (length b) ev) d ev r b e

@@ -8,6 +8,7 @@ mod rwlock;
 mod state;
 mod step;
 mod stuck;
+mod types;
 mod valid;
 
 pub use event::Event;
@@ -20,3 +21,4 @@ pub use state::Detector;
 pub use state::Pair;
 pub use state::Queue;
 pub use state::Rest;
+pub use types::typed;

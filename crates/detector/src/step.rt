@@ -2,7 +2,8 @@
 ghost use mathlib.Core.Path.{_≡_};
 ghost use lib.ListN.{length};
 ghost use Rattle.detector.specs.Refusals.{refusal};
-ghost use Rattle.detector.specs.State.{tables, Valid, Answers, Steps};
+ghost use Rattle.detector.specs.State.{tables, Valid};
+ghost use Rattle.detector.specs.Promises.{Answers, Steps};
 ghost use Rattle.detector.specs.Code.{served};
 use crate::event::Event;
 use crate::reply::Answered;

@@ -15,7 +15,8 @@ use Rattle.sets.specs.Lists.{In}
 use Rattle.sets.proofs.Walk.{upward-lt}
 use Rattle.graph.specs.Search.{row, Trail, visit, expand, wayBack, search, begin, findPath}
 use Rattle.graph.specs.Graph.{Adding, adding, closing, addEdge, first, addNext, addOwners, one}
-use Rattle.graph.specs.Code.{answered, foundIn, Fit}
+use Rattle.graph.specs.Code.{answered, foundIn}
+use Rattle.graph.specs.Promises.{Fit}
 use Rattle.graph.specs.declared.wait_for_graph.WaitForGraph.{WaitForGraph}
 
 abbrev Small : List ℕ → Type 0

@@ -18,7 +18,8 @@ use Rattle.sets.proofs.Digits.{not-bit, with-lt, ones-with}
 use Rattle.sets.proofs.Below.{last-or}
 use Rattle.graph.specs.declared.search.Search.{Search}
 use Rattle.graph.specs.Search.{row, Trail, visit, expand, wayBack, begin, search, findPath}
-use Rattle.graph.specs.Code.{Sound, trailOf}
+use Rattle.graph.specs.Promises.{Sound}
+use Rattle.graph.specs.Code.{trailOf}
 
 -- the search with thread n found from place p
 abbrev pub pushed : Search → ℕ → ℕ → Search

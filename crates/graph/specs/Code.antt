@@ -1,10 +1,8 @@
 -- What the code's records stand for.
-use mathlib.Core.Path.{_≡_}
 use mathlib.Core.List.{List, [], _++_}
 use mathlib.Core.Option.{Option, none, some}
-use Prim.Native.Nat.{ℕ, _-_, _<_, _≤_, _^_}
-use lib.ListN.{getD, take, length, replicate}
-use lib.Count.{ones}
+use Prim.Native.Nat.{ℕ, _-_}
+use lib.ListN.{take, length, replicate}
 use Rattle.graph.specs.Search.{Trail}
 use Rattle.graph.specs.Graph.{Adding, addEdge}
 use Rattle.graph.specs.declared.search.Search.{Search}
@@ -27,12 +25,6 @@ answered none = record { answer = Missing; path = pathOf [] }
 abbrev pub listOf : Path → List ℕ
 listOf p = take (p .len) (p .threads)
 
--- at most 32 threads, each below 32
-pub record Fit (p : Path) : Type 0 where
-  pub long : p .len ≤ 32
-  pub small : (k : ℕ) → getD (p .threads) k 0 < 32
-  pub cells : p .len ≤ length (p .threads)
-
 -- the answer's case and its value: document 01's "path found or none"
 abbrev pub foundBy : Answer → Path → Option (List ℕ)
 foundBy Found p = some (listOf p)
@@ -51,15 +43,6 @@ sooner a b = soonerBy (a .answer) a b
 -- THE SEARCH
 abbrev pub trailOf : Search → Trail
 trailOf s = record { threads = take (s .count) (s .threads); parents = take (s .count) (s .parents); seen = s .seen }
-
--- as many places are in use as threads are seen, each thread is below 32, and each parent stands before
-pub record Sound (s : Search) : Type 0 where
-  pub long : length (s .threads) ≡ 32
-  pub long-from : length (s .parents) ≡ 32
-  pub counted : s .count ≡ ones (s .seen)
-  pub below : s .seen < 2 ^ 32
-  pub small : (k : ℕ) → k < s .count → getD (s .threads) k 0 < 32
-  pub earlier : (k : ℕ) → 0 < k → k < s .count → getD (s .parents) k 0 < k
 
 -- THE GRAPH
 abbrev pub added : Adding → Added

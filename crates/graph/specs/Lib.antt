@@ -3,3 +3,4 @@ pub mod Ways
 pub mod Search
 pub mod Graph
 pub mod Code
+pub mod Promises

@@ -27,8 +27,9 @@ use Rattle.detector.specs.declared.state.Pair.{Pair}
 use Rattle.detector.specs.declared.state.CvWait.{CvWait}
 use Rattle.detector.specs.declared.state.Queue.{Queue}
 use Rattle.detector.specs.declared.state.Detector.{Detector}
-use Rattle.answers.specs.Text.{text, decimal, withTab, tabbed}
-use Rattle.answers.proofs.Digits.{decimal-short}
+use Rattle.text.specs.Bytes.{text}
+use Rattle.text.specs.Decimal.{decimal, withTab, tabbed}
+use Rattle.text.proofs.Digits.{decimal-short}
 use Rattle.listing.specs.Listing.{tableText, two, three, along, below, membersOf, setItems, setsItems, ownersItems, readersOf, readersItems, pairItem, queueItems, queuesItems, cvWaitsItems, modeText, intentItem, intentsItems, condvarsText, graphText, mutexesText, rwlocksText, threadsText, tablesText}
 use Rattle.listing.specs.Code.{tablesRoom}
 use Rattle.listing.proofs.Items.{tabbed-append}

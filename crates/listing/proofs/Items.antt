@@ -11,14 +11,17 @@ use lib.ListN.{length, take, drop, getD, length-append, length-take, drop-of-len
 use lib.Seq.{slice-cons}
 use Rattle.sets.specs.Sets.{without, lowest}
 use Rattle.sets.proofs.Walk.{upward-step, upward-zero}
-use Rattle.answers.specs.Text.{text, decimal, withTab, tabbed, Room, Put}
-use Rattle.answers.proofs.Puts.{then, room-then, room-first}
+use Rattle.text.specs.Bytes.{text}
+use Rattle.text.specs.Decimal.{decimal, withTab, tabbed}
+use Rattle.text.specs.Promises.{Room, Put}
+use Rattle.text.proofs.Puts.{then, room-then, room-first}
 use Rattle.detector.specs.Tables.{noPair}
 use Rattle.detector.specs.State.{pairsOf, blankQueue}
 use Rattle.detector.specs.declared.state.Pair.{Pair}
 use Rattle.detector.specs.declared.state.Queue.{Queue}
 use Rattle.listing.specs.Listing.{tableText, two, along, below, membersOf, setItems, pairItem, queueItems}
-use Rattle.listing.specs.Code.{begun, opening, ending, more, Roomy, Lists}
+use Rattle.listing.specs.Code.{begun, opening, ending, more}
+use Rattle.listing.specs.Promises.{Roomy, Lists}
 
 -- ---- what stands before an item, and an item
 

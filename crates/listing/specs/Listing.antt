@@ -18,7 +18,8 @@ use Rattle.waits.specs.declared.intent.Awaits.the-variants.{Nothing, For}
 use Rattle.detector.specs.Tables.{Tables, blankWait}
 use Rattle.detector.specs.declared.state.Pair.{Pair}
 use Rattle.detector.specs.declared.state.CvWait.{CvWait}
-use Rattle.answers.specs.Text.{text, decimal, line}
+use Rattle.text.specs.Bytes.{text}
+use Rattle.text.specs.Decimal.{decimal, line}
 
 -- ---- a line of items
 

@@ -2,7 +2,7 @@
 use crate::item::put_three;
 use crate::item::put_two;
 use crate::item::put_word;
-use answers::wide;
+use text::wide;
 use detector::CvWait;
 use detector::Pair;
 use waits::Awaits;
@@ -11,7 +11,7 @@ use waits::WaitMode;
 ghost use mathlib.Core.Path.{_≡_};
 ghost use mathlib.Core.List.{[], _∷_};
 ghost use Rattle.listing.specs.Listing.{ownerItem, readerItem, pairItem, waitItem, intentItem};
-ghost use Rattle.listing.specs.Code.{Roomy, Lists};
+ghost use Rattle.listing.specs.Promises.{Roomy, Lists};
 
 pub(crate) fn put_owner(
     out: &mut [u8],

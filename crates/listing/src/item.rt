@@ -1,12 +1,14 @@
 // The items of a table's line. The line's beginning stands before the first: a table with no item has no line.
-use answers::put_byte;
-use answers::put_bytes;
-use answers::put_number;
+use text::put_byte;
+use text::put_bytes;
+use text::put_number;
 ghost use mathlib.Core.List.{[], _∷_};
 ghost use lib.Dec.{eqb};
-ghost use Rattle.answers.specs.Text.{decimal, Room, Put};
+ghost use Rattle.text.specs.Decimal.{decimal};
+ghost use Rattle.text.specs.Promises.{Room, Put};
 ghost use Rattle.listing.specs.Listing.{two, three};
-ghost use Rattle.listing.specs.Code.{opening, ending, Roomy, Lists};
+ghost use Rattle.listing.specs.Code.{opening, ending};
+ghost use Rattle.listing.specs.Promises.{Roomy, Lists};
 
 // What stands before an item of the line that begins at start.
 fn put_open(out: &mut [u8], start: usize, at: usize, name: &[u8]) -> usize

@@ -5,9 +5,9 @@ use crate::item::put_two;
 use sets::locks;
 ghost use mathlib.Core.Path.{_≡_};
 ghost use Prim.Native.Nat.{_≤_};
-ghost use Rattle.answers.specs.Text.{Room, Put};
+ghost use Rattle.text.specs.Promises.{Room, Put};
 ghost use Rattle.listing.specs.Listing.{tableText, membersOf, setItems, setsItems};
-ghost use Rattle.listing.specs.Code.{Roomy, Lists};
+ghost use Rattle.listing.specs.Promises.{Roomy, Lists};
 
 // The numbers of a set, as a whole table.
 pub(crate) fn put_members(out: &mut [u8], at: usize, name: &[u8], m: u32) -> usize

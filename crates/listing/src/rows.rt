@@ -11,10 +11,10 @@ use waits::Slot;
 use waits::place;
 ghost use mathlib.Core.List.{map};
 ghost use Prim.Native.Nat.{_<_, _≤_};
-ghost use Rattle.answers.specs.Text.{Room, Put};
+ghost use Rattle.text.specs.Promises.{Room, Put};
 ghost use Rattle.detector.specs.State.{pairsOf, Queued};
 ghost use Rattle.listing.specs.Listing.{tableText, ownersItems, readersOf, readersItems, queueItems, queuesItems, cvWaitsItems, intentsItems};
-ghost use Rattle.listing.specs.Code.{Roomy, Lists, Queues};
+ghost use Rattle.listing.specs.Promises.{Roomy, Lists, Queues};
 
 pub(crate) fn put_owners(out: &mut [u8], at: usize, name: &[u8], owners: &[u8]) -> usize
     requires { ⌜ Room (now out) at (tableText (now name) (ownersItems (now owners))) ⌝ }

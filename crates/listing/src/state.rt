@@ -14,10 +14,11 @@ use waits::Waits;
 ghost use mathlib.Core.List.{map};
 ghost use Prim.Native.Nat.{_+_, _≤_};
 ghost use lib.ListN.{length};
-ghost use Rattle.answers.specs.Text.{Room, Put};
+ghost use Rattle.text.specs.Promises.{Room, Put};
 ghost use Rattle.detector.specs.State.{tables, pairsOf, Valid};
 ghost use Rattle.listing.specs.Listing.{condvarsText, graphText, mutexesText, rwlocksText, threadsText, tablesText};
-ghost use Rattle.listing.specs.Code.{Queues, tablesRoom};
+ghost use Rattle.listing.specs.Promises.{Queues};
+ghost use Rattle.listing.specs.Code.{tablesRoom};
 
 // Room for the tables of any state.
 pub const TABLES_ROOM: usize = 120000;

@@ -9,25 +9,27 @@ use borrow.Author.Tests.{lt-ltb, le-ltb}
 use lib.Dec.{eqb, ltb}
 use lib.ListN.{length, take, drop}
 use lib.Seq.{take-take, length-take-le}
-use Rattle.answers.specs.Text.{Put}
+use Rattle.text.specs.Promises.{Put}
 use Rattle.answers.specs.Answers.{answerRoom}
-use Rattle.answers.proofs.Puts.{then}
+use Rattle.text.proofs.Puts.{then}
 use Rattle.detector.specs.Tables.{Tables}
 use Rattle.detector.specs.State.{tables as tables-of}
 use Rattle.listing.specs.Listing.{tablesText}
 use Rattle.listing.specs.Code.{tablesRoom}
-use Rattle.transcript.specs.Lines.{lineFeed}
+use Rattle.text.specs.Bytes.{lineFeed}
 use Rattle.transcript.specs.Replay.{Run, limit, after, lineText, lastText}
 use Rattle.transcript.specs.Chunks.{Mid, mid, step, said, fed, says, ends, lastLine}
-use Rattle.transcript.specs.Code.{runOf, midOf, between, Moves, Feeds}
+use Rattle.transcript.specs.Code.{runOf, midOf, between}
+use Rattle.transcript.specs.Promises.{Moves, Feeds}
 use Rattle.transcript.specs.declared.run.Run as code
 use Rattle.transcript.specs.declared.run.Turned.{Turned}
-use Rattle.script.specs.Fields.{upTo}
+use Rattle.text.specs.Fields.{upTo}
 use Rattle.transcript.proofs.Turning.{piece, piece-feed}
 use Rattle.transcript.proofs.Chunk.{between-on}
 use Rattle.transcript.proofs.Feeding.{feeds-move, ends-closed}
 use Rattle.runner.specs.Shown.{lineShown, shownOf, shown, shows, closes, OpenShown}
-use Rattle.runner.specs.Code.{space, prints, printsLast, lineEnds, Part, Puts}
+use Rattle.runner.specs.Code.{space, prints, printsLast}
+use Rattle.runner.specs.Promises.{lineEnds, Part, Puts}
 
 -- ---- a byte ends no line that is read, or it ends one
 

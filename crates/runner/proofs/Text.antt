@@ -6,15 +6,16 @@ use Prim.Native.Nat.{ℕ, suc, _+_}
 use native.Mathlib.Omega.{arith}
 use lib.Dec.{eqb, ltb}
 use lib.ListN.{take}
-use Rattle.script.specs.Fields.{onFirst}
+use Rattle.text.specs.Fields.{onFirst}
 use Rattle.listing.specs.Listing.{tablesText}
-use Rattle.transcript.specs.Lines.{lineFeed, linesOf}
+use Rattle.text.specs.Bytes.{lineFeed}
+use Rattle.text.specs.Lines.{linesOf, carrySize}
 use Rattle.transcript.specs.Replay.{Run, Result, limit, begun, after, lineText, resultText}
-use Rattle.transcript.specs.Chunks.{carrySize, Mid, mid, start, step, fed, lastLine, together}
+use Rattle.transcript.specs.Chunks.{Mid, mid, start, step, fed, lastLine, together}
 use Rattle.transcript.proofs.Turning.{after-cut}
 use Rattle.transcript.proofs.Text.{fed-joined, cut-result, cut-more}
 use Rattle.runner.specs.Shown.{lineShown, shownOf, shownText, shown, shows, closes, showsAll, ShownTheorem}
-use Rattle.runner.specs.Code.{lineEnds}
+use Rattle.runner.specs.Promises.{lineEnds}
 use Rattle.runner.proofs.Lines.{line-ends-more, shown-full}
 
 -- ---- chunks are their concatenation

@@ -6,7 +6,8 @@ use mathlib.Core.Bool.{cond}
 use mathlib.Core.List.{List, [], _∷_, _++_}
 use lib.Dec.{eqb, ltb}
 use Rattle.listing.specs.Listing.{tablesText}
-use Rattle.transcript.specs.Lines.{lineFeed, linesOf}
+use Rattle.text.specs.Bytes.{lineFeed}
+use Rattle.text.specs.Lines.{linesOf}
 use Rattle.transcript.specs.Replay.{Run, limit, begun, after, lineText, lastText}
 use Rattle.transcript.specs.Chunks.{Mid, start, step, fed, lastLine, fedAll, together}
 

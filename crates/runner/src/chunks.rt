@@ -12,11 +12,13 @@ ghost use Prim.Native.Nat.{_<_};
 ghost use lib.IntN.{pos};
 ghost use lib.ListN.{length, take};
 ghost use lib.Seq.{sets};
-ghost use Rattle.demands.specs.Reached.{room};
-ghost use Rattle.transcript.specs.Lines.{lineFeed};
+ghost use Rattle.detector.specs.Refusals.{reportRoom};
+ghost use Rattle.text.specs.Bytes.{lineFeed};
 ghost use Rattle.transcript.specs.Replay.{limit};
-ghost use Rattle.transcript.specs.Chunks.{carrySize, fed};
-ghost use Rattle.transcript.specs.Code.{IsRun, midOf};
+ghost use Rattle.text.specs.Lines.{carrySize};
+ghost use Rattle.transcript.specs.Chunks.{fed};
+ghost use Rattle.transcript.specs.Promises.{IsRun};
+ghost use Rattle.transcript.specs.Code.{midOf};
 ghost use Rattle.runner.specs.Code.{space, printsLast};
 
 // No contract can say what is read: this count of turns bounds the loop that reads.
@@ -44,7 +46,7 @@ fn take_chunk(
     out: &mut [u8],
     buf: &mut [u8],
 ) -> Held
-    requires { ⌜ IsRun run (now carry) × (length (now out) ≡ space) × (length (now buf) ≡ room) ⌝ }
+    requires { ⌜ IsRun run (now carry) × (length (now out) ≡ space) × (length (now buf) ≡ reportRoom) ⌝ }
     ensures { λ r. ⌜ IsRun (r .run) (now (carry .exit)) × (r .open ≡ true → midOf (r .run) (now (carry .exit)) ≡ fed (midOf run (now (carry .entry))) (now (chunk .entry))) ⌝ }
 {
     let mut r = run;
@@ -100,7 +102,7 @@ pub(crate) fn run_script(
     out: &mut [u8],
     buf: &mut [u8],
 ) -> Ending
-    requires { ⌜ (0 < length (now inp)) × (length (now carry) ≡ carrySize) × (length (now out) ≡ space) × (length (now buf) ≡ room) ⌝ }
+    requires { ⌜ (0 < length (now inp)) × (length (now carry) ≡ carrySize) × (length (now out) ≡ space) × (length (now buf) ≡ reportRoom) ⌝ }
 {
     let mut r = begin();
     let mut over = false;

@@ -1,16 +1,17 @@
 // A part of a chunk: as many lines as it has, or one where tables are to stand behind its answer.
 use listing::put_tables;
-use script::up_to;
+use text::up_to;
 use transcript::Run;
 use transcript::Turned;
 use transcript::feed_within;
 ghost use mathlib.Core.Path.{_≡_};
 ghost use Prim.Native.Nat.{_<_};
 ghost use lib.ListN.{length};
-ghost use Rattle.demands.specs.Reached.{room};
+ghost use Rattle.detector.specs.Refusals.{reportRoom};
 ghost use Rattle.transcript.specs.Replay.{limit};
-ghost use Rattle.transcript.specs.Code.{IsRun};
-ghost use Rattle.runner.specs.Code.{space, Part, Puts};
+ghost use Rattle.transcript.specs.Promises.{IsRun};
+ghost use Rattle.runner.specs.Code.{space};
+ghost use Rattle.runner.specs.Promises.{Part, Puts};
 
 // With tables: behind the line feed of the line that starts at from, or the chunk's end.
 fn part_end(tables: bool, chunk: &[u8], from: usize) -> usize
@@ -39,7 +40,7 @@ pub(crate) fn put_part(
     buf: &mut [u8],
 ) -> Turned
     requires { ⌜ IsRun run (now carry) × (run .lines < limit) × (from < length (now chunk)) ⌝ }
-    requires { ⌜ (length (now out) ≡ space) × (length (now buf) ≡ room) ⌝ }
+    requires { ⌜ (length (now out) ≡ space) × (length (now buf) ≡ reportRoom) ⌝ }
     ensures { λ r. ⌜ Puts tables run (now (carry .entry)) (now (chunk .entry)) from (now (out .entry)) r (now (carry .exit)) (now (out .exit)) ⌝ }
 {
     let lines = run.lines;

@@ -2,12 +2,12 @@
 use crate::chunks::Ending;
 use crate::chunks::run_script;
 use detector::Detector;
-use transcript::CARRY;
+use text::CARRY;
 ghost use mathlib.Core.Path.{_≡_};
 ghost use Prim.Native.Nat.{_<_};
 ghost use lib.ListN.{length};
-ghost use Rattle.demands.specs.Reached.{room};
-ghost use Rattle.transcript.specs.Chunks.{carrySize};
+ghost use Rattle.detector.specs.Refusals.{reportRoom};
+ghost use Rattle.text.specs.Lines.{carrySize};
 ghost use Rattle.runner.specs.Code.{space};
 
 // Room for a line's answer and its tables, and for the sums.
@@ -57,7 +57,7 @@ fn run_file(
     out: &mut [u8],
     buf: &mut [u8],
 ) -> bool
-    requires { ⌜ (0 < length (now inp)) × (length (now carry) ≡ carrySize) × (length (now out) ≡ space) × (length (now buf) ≡ room) ⌝ }
+    requires { ⌜ (0 < length (now inp)) × (length (now carry) ≡ carrySize) × (length (now out) ≡ space) × (length (now buf) ≡ reportRoom) ⌝ }
 {
     let mut path = io::buffer();
     let n = os::arg(i, &mut path);

@@ -1,8 +1,9 @@
 -- Lines that read and lines that do not.
 use mathlib.Core.Path.{_≡_, refl}
-use Rattle.answers.specs.Text.{text}
-use Rattle.script.specs.Fields.{parts, fields}
-use Rattle.script.specs.Number.{digitsFrom, numberOf, same, outcomeOf}
+use Rattle.text.specs.Bytes.{text, same}
+use Rattle.text.specs.Fields.{parts, fields}
+use Rattle.text.specs.Numbers.{digitsFrom, numberOf}
+use Rattle.script.specs.Outcomes.{outcomeOf}
 use Rattle.script.specs.Words.{shapeOf}
 use Rattle.script.specs.Lines.{afterTwo, afterOne, afterWord, lineOf}
 use Rattle.waits.specs.declared.outcome.Outcome.the-variants as outcome

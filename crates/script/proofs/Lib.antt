@@ -1,5 +1,3 @@
-pub mod Cut
-pub mod Digits
 pub mod Table
 pub mod Steps
 pub mod Printing

@@ -4,8 +4,9 @@ use mathlib.Core.List.{List, [], _∷_, _++_, append-nil}
 use Prim.Native.Nat.{ℕ, suc, _+_, _<_, _≤_, _^_}
 use native.Mathlib.Omega.{arith}
 use lib.ListN.{length, length-append}
-use Rattle.answers.specs.Text.{decimal, withTab, tabbed, Room}
-use Rattle.answers.proofs.Bounds.{decimal-bound}
+use Rattle.text.specs.Decimal.{decimal, withTab, tabbed}
+use Rattle.text.specs.Promises.{Room}
+use Rattle.text.proofs.Digits.{decimal-bound}
 use Rattle.script.specs.Printed.{Parts, one, two, three, partsOf, outcomeText, partsText, eventText, hintsOf, numbersOf, Below, Within, eventRoom}
 use Rattle.script.specs.Code.{letters, keyed}
 use Rattle.waits.specs.declared.outcome.Outcome.{Outcome}

@@ -10,9 +10,11 @@ use native.Mathlib.Nat.{eq-or-lt-of-le}
 use borrow.Author.Tests.{eqb-true, le-leb}
 use lib.Dec.{eqb}
 use lib.ListN.{length, length-append}
-use Rattle.answers.specs.Text.{decimalIn, decimal, tabbed, joined}
-use Rattle.answers.proofs.Digits.{decimal-short}
-use Rattle.script.specs.Number.{digitsFrom, numberOf, same, outcomeOf}
+use Rattle.text.specs.Decimal.{decimalIn, decimal, tabbed, joined}
+use Rattle.text.proofs.Digits.{decimal-short}
+use Rattle.text.specs.Numbers.{digitsFrom, numberOf}
+use Rattle.text.specs.Bytes.{same}
+use Rattle.script.specs.Outcomes.{outcomeOf}
 use Rattle.script.specs.Words.{Word, spelled, shape}
 use Rattle.script.specs.Lines.{afterTwo, afterOne, afterWord, lineOf}
 use Rattle.script.specs.Printed.{Parts, one, two, three, partsOf, outcomeText, partsText, eventText, hintsOf, numbersOf, Below, Within}
@@ -22,13 +24,13 @@ use Rattle.waits.specs.declared.outcome.Outcome.the-variants as came
 use Rattle.waits.specs.declared.outcome.Tried.the-variants as tried
 use Rattle.detector.specs.declared.event.Event.{Event}
 use Rattle.detector.specs.declared.event.Event.the-variants as event
-use Rattle.script.specs.declared.number.NumberRead.{NumberRead}
-use Rattle.script.specs.declared.number.NumberRead.the-variants as number
+use Rattle.text.specs.declared.number.NumberRead.{NumberRead}
+use Rattle.text.specs.declared.number.NumberRead.the-variants as number
 use Rattle.script.specs.declared.outcome.OutcomeRead.{OutcomeRead}
 use Rattle.script.specs.declared.outcome.OutcomeRead.the-variants as outcome
 use Rattle.script.specs.declared.line.Line.{Line}
 use Rattle.script.specs.declared.line.Line.the-variants as line
-use Rattle.script.proofs.Cut.{tabless, allTabless, cut-joined}
+use Rattle.text.proofs.Cut.{tabless, allTabless, cut-joined}
 use Rattle.script.proofs.Table.{spelling}
 
 abbrev isNumber : ℕ → NumberRead → Bool

@@ -8,15 +8,16 @@ use borrow.Author.Tests.{leb-true, leb-false, le-leb, lt-leb}
 use lib.Dec.{leb}
 use lib.ListN.{length, take, drop, length-take}
 use lib.Seq.{take-all}
-use Rattle.script.specs.Fields.{fields, fieldAt}
-use Rattle.script.specs.Number.{numberOf, outcomeOf}
+use Rattle.text.specs.Fields.{fields, fieldAt}
+use Rattle.text.specs.Numbers.{numberOf}
+use Rattle.script.specs.Outcomes.{outcomeOf}
 use Rattle.script.specs.Words.{Shape, shapeOf}
 use Rattle.script.specs.Lines.{afterTwo, afterOne, afterWord, lineOf}
 use Rattle.waits.specs.declared.outcome.Outcome.{Outcome}
-use Rattle.script.specs.declared.number.NumberRead.the-variants as number
+use Rattle.text.specs.declared.number.NumberRead.the-variants as number
 use Rattle.script.specs.declared.outcome.OutcomeRead.the-variants as outcome
 use Rattle.script.specs.declared.line.Line.the-variants as line
-use Rattle.script.proofs.Cut.{field-then, field-last, field-more}
+use Rattle.text.proofs.Cut.{field-then, field-last, field-more}
 
 module _ (s : Shape) (l f : List ℕ) (at : ℕ) (i : f ≡ fieldAt l at) (a : ℕ) where
   pub word-bad : numberOf f ≡ number.Bad → line.Unread ≡ afterWord s (fields (drop at l))

@@ -7,10 +7,10 @@ use native.Mathlib.Omega.{arith}
 use borrow.Author.Tests.{eq-eqb, ne-eqb, eqb-true, eqb-false, ltb-true}
 use lib.Dec.{eqb, ltb}
 use lib.ListN.{length, getD}
-use Rattle.script.specs.Number.{same}
+use Rattle.text.specs.Bytes.{same}
 use Rattle.script.specs.Words.{Word, ma, mc, mr, md, ra, rc, rt, rr, wa, wc, wr, rd, cn, cd, cb, c1, ca, ce, words, spelled, Shape, noWord, shape, shapeIn, shapeOf}
 use Rattle.script.specs.Code.{keyOf, key, letters}
-use Rattle.script.proofs.Cut.{tabless}
+use Rattle.text.proofs.Cut.{tabless}
 use Rattle.waits.specs.declared.outcome.Outcome.{Outcome}
 use Rattle.script.specs.declared.line.Line.{Line}
 

@@ -1,5 +1,4 @@
-pub mod Fields
-pub mod Number
+pub mod Outcomes
 pub mod Words
 pub mod Lines
 pub mod Printed

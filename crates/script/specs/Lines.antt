@@ -4,12 +4,13 @@ use mathlib.Core.Bool.{cond}
 use mathlib.Core.List.{List, [], _∷_}
 use lib.Dec.{leb}
 use lib.ListN.{length}
-use Rattle.script.specs.Fields.{fields}
-use Rattle.script.specs.Number.{numberOf, outcomeOf}
+use Rattle.text.specs.Fields.{fields}
+use Rattle.text.specs.Numbers.{numberOf}
+use Rattle.script.specs.Outcomes.{outcomeOf}
 use Rattle.script.specs.Words.{Shape, shapeOf}
 use Rattle.waits.specs.declared.outcome.Outcome.{Outcome}
-use Rattle.script.specs.declared.number.NumberRead.{NumberRead}
-use Rattle.script.specs.declared.number.NumberRead.the-variants as number
+use Rattle.text.specs.declared.number.NumberRead.{NumberRead}
+use Rattle.text.specs.declared.number.NumberRead.the-variants as number
 use Rattle.script.specs.declared.outcome.OutcomeRead.{OutcomeRead}
 use Rattle.script.specs.declared.outcome.OutcomeRead.the-variants as outcome
 use Rattle.script.specs.declared.line.Line.{Line}

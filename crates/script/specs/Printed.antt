@@ -2,7 +2,8 @@
 use Prim.Native.Nat.{ℕ, _<_}
 use mathlib.Core.List.{List, [], _∷_}
 use lib.ListN.{getD}
-use Rattle.answers.specs.Text.{text, decimal, joined}
+use Rattle.text.specs.Bytes.{text}
+use Rattle.text.specs.Decimal.{decimal, joined}
 use Rattle.script.specs.Words.{Word, ma, mc, mr, md, ra, rc, rt, rr, wa, wc, wr, rd, cn, cd, cb, c1, ca, ce, spelled}
 use Rattle.waits.specs.declared.outcome.Outcome.{Outcome}
 use Rattle.waits.specs.declared.outcome.Outcome.the-variants as outcome

@@ -2,8 +2,7 @@
 use Prim.Native.Nat.{ℕ}
 use mathlib.Core.Bool.{cond}
 use mathlib.Core.List.{List, [], _∷_}
-use Rattle.answers.specs.Text.{text}
-use Rattle.script.specs.Number.{same}
+use Rattle.text.specs.Bytes.{text, same}
 use Rattle.waits.specs.declared.outcome.Outcome.{Outcome}
 use Rattle.waits.specs.declared.outcome.Outcome.the-variants as outcome
 use Rattle.waits.specs.declared.outcome.Tried.{Tried}

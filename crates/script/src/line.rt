@@ -1,7 +1,7 @@
 // A line, without its line feed, to its event.
-use crate::field::field;
-use crate::number::NumberRead;
-use crate::number::read_number;
+use text::field;
+use text::NumberRead;
+use text::read_number;
 use crate::outcome::OutcomeRead;
 use crate::outcome::read_outcome;
 use crate::words;
@@ -11,7 +11,7 @@ use waits::Tried;
 ghost use mathlib.Core.Path.{_≡_};
 ghost use Prim.Native.Nat.{_≤_};
 ghost use lib.ListN.{length, drop};
-ghost use Rattle.script.specs.Fields.{fields};
+ghost use Rattle.text.specs.Fields.{fields};
 ghost use Rattle.script.specs.Words.{noHint, asNumber, shapeOf};
 ghost use Rattle.script.specs.Lines.{afterTwo, afterOne, afterWord, lineOf};
 

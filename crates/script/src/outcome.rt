@@ -1,29 +1,15 @@
 // How a try came out: `took`, `-`, or a hint number.
-use crate::number::NumberRead;
-use crate::number::read_number;
+use text::NumberRead;
+use text::equal;
+use text::read_number;
 use waits::Outcome;
 ghost use mathlib.Core.Path.{_≡_};
-ghost use Rattle.script.specs.Number.{same, outcomeOf};
+ghost use Rattle.text.specs.Bytes.{same};
+ghost use Rattle.script.specs.Outcomes.{outcomeOf};
 
 pub enum OutcomeRead {
     Is(Outcome),
     Bad,
-}
-
-fn equal(s: &[u8], t: &[u8]) -> bool
-    ensures { λ r. ⌜ r ≡ same (now (s .entry)) (now (t .entry)) ⌝ }
-{
-    if s.len() != t.len() {
-        return false;
-    }
-    let mut i = 0;
-    while i < s.len() {
-        if s[i] != t[i] {
-            return false;
-        }
-        i = i + 1;
-    }
-    true
 }
 
 pub(crate) fn read_outcome(s: &[u8]) -> OutcomeRead

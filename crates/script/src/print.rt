@@ -1,13 +1,14 @@
 // An event to its line, put into a buffer that the caller lends.
 use crate::words;
-use answers::put_byte;
-use answers::put_bytes;
-use answers::put_field;
+use text::put_byte;
+use text::put_bytes;
+use text::put_field;
 use detector::Event;
 use waits::Outcome;
 use waits::Tried;
 ghost use mathlib.Core.Path.{_≡_};
-ghost use Rattle.answers.specs.Text.{withTab, Room, Put};
+ghost use Rattle.text.specs.Decimal.{withTab};
+ghost use Rattle.text.specs.Promises.{Room, Put};
 ghost use Rattle.script.specs.Printed.{asOutcome, partsOf, outcomeText, eventText};
 ghost use Rattle.script.specs.Code.{letters, keyed};
 

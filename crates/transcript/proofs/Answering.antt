@@ -7,11 +7,12 @@ use lib.ListN.{length, drop, length-map}
 use lib.Seq.{sets-eq}
 use borrow.Author.Tests.{ne-eqb}
 use Rattle.waits.specs.Report.{Report, entriesOf, bytesOf, written}
-use Rattle.waits.specs.Code.{laid}
+use Rattle.waits.specs.Promises.{laid}
 use Rattle.detector.specs.Tables.{Tables, Answer, silent}
 use Rattle.detector.specs.Events.{apply}
-use Rattle.detector.specs.Refusals.{refusal}
-use Rattle.detector.specs.State.{tables, reportsOf, Valid, Does}
+use Rattle.detector.specs.Refusals.{refusal, reportRoom}
+use Rattle.detector.specs.State.{tables, Valid}
+use Rattle.detector.specs.Promises.{reportsOf, Does}
 use Rattle.detector.specs.declared.event.Event.{Event}
 use Rattle.detector.specs.declared.state.Detector.{Detector}
 use Rattle.detector.specs.declared.reply.Answered.{Answered}
@@ -19,10 +20,10 @@ use Rattle.detector.specs.declared.reply.Done.{Done}
 use Rattle.detector.specs.declared.reply.Reply.{Reply}
 use Rattle.detector.specs.declared.reply.Reply.the-variants.{Reports, Refused}
 use Rattle.detector.proofs.Numbers.{refusal-known}
-use Rattle.demands.specs.Reached.{answer, room}
-use Rattle.demands.specs.Invariants.{Brief}
-use Rattle.demands.proofs.Events.{served, unserved}
-use Rattle.demands.proofs.Brief.{most-32, valid-brief}
+use Rattle.detector.specs.Effects.{answer}
+use Rattle.detector.specs.Brief.{Brief}
+use Rattle.detector.proofs.Serving.{served, unserved}
+use Rattle.detector.proofs.Brief.{most-32, valid-brief}
 use Rattle.answers.specs.Reports.{reportsIn, reportsSize, reportsBytes}
 use Rattle.answers.specs.Answers.{number}
 use Rattle.answers.proofs.Laid.{reports-read, reports-size}
@@ -37,7 +38,7 @@ pub record Results (r : Answered) (b : List ℕ) (a : Result) : Type 0 where
   pub state : tables (r .detector) ≡ a .tables
   pub reply : r .reply ≡ a .reply
   pub cycles : reportsIn (reportsOf (r .reply)) b ≡ a .cycles
-  pub held : reportsSize (reportsOf (r .reply)) b ≤ room
+  pub held : reportsSize (reportsOf (r .reply)) b ≤ reportRoom
   pub few : reportsOf (r .reply) ≤ 32
   pub small : number (r .reply) < 256
 
@@ -67,23 +68,23 @@ size-items b e rs h q =
 abbrev served-by : Tables → Event → Result
 served-by x e = replying (Reports (length (apply e x .reports))) (apply e x)
 
-line-served : (x : Tables) (e : Event) → refusal x room e ≡ 0 → lineResult x (line.Event e) ≡ served-by x e
-line-served x e q = rw (served x room e q, q)
+line-served : (x : Tables) (e : Event) → refusal x reportRoom e ≡ 0 → lineResult x (line.Event e) ≡ served-by x e
+line-served x e q = rw (served x reportRoom e q, q)
 
-line-refused : (x : Tables) (e : Event) → (refusal x room e ≡ 0 → ⊥) → lineResult x (line.Event e) ≡ replying (Refused (refusal x room e)) (silent x)
-line-refused x e q = rw (unserved x room e q, ne-eqb (refusal x room e) 0 q)
+line-refused : (x : Tables) (e : Event) → (refusal x reportRoom e ≡ 0 → ⊥) → lineResult x (line.Event e) ≡ replying (Refused (refusal x reportRoom e)) (silent x)
+line-refused x e q = rw (unserved x reportRoom e q, ne-eqb (refusal x reportRoom e) 0 q)
 
 pub refused-results : (d : Detector) (k : ℕ) (b : List ℕ) → Valid d → k < 256 → Results (record { detector = d; reply = Refused k }) b (replying (Refused k) (silent (tables d)))
 unfolding reportsIn reportsSize
 refused-results d k b g h = record { valid = g; state = refl; reply = refl; cycles = refl; held = omega arith; few = omega arith; small = h }
 
-served-results : (d : Detector) (e : Event) (r : Detector) (b c : List ℕ) → Valid d → length b ≡ room → refusal (tables d) room e ≡ 0
+served-results : (d : Detector) (e : Event) (r : Detector) (b c : List ℕ) → Valid d → length b ≡ reportRoom → refusal (tables d) reportRoom e ≡ 0
     → Does (record { detector = r; reports = length (apply e (tables d) .reports) }) b c (apply e (tables d))
     → Results (record { detector = r; reply = Reports (length (apply e (tables d) .reports)) }) c (served-by (tables d) e)
 served-results d e r b c g n q s =
     let x = tables d in
-    let a : answer x room e ≡ apply e x = served x room e q in
-    let brief : Brief e (apply e x .reports) = subst (λ (z : Answer). Brief e (z .reports)) a (valid-brief d room e g) in
+    let a : answer x reportRoom e ≡ apply e x = served x reportRoom e q in
+    let brief : Brief e (apply e x .reports) = subst (λ (z : Answer). Brief e (z .reports)) a (valid-brief d reportRoom e g) in
     let h : length (written (apply e x .reports)) ≤ length b = omega (arith, brief .room) in
     record {
       valid = s .valid;
@@ -102,7 +103,7 @@ pub record Met (d : Detector) (l : Line) (b : List ℕ) (s : Detector) (y : Repl
   pub long : length c ≡ length b
   pub bytes : Bytes c
 
-module _ {d : Detector} {l : Line} {b : List ℕ} (g : Valid d) (n : length b ≡ room) where
+module _ {d : Detector} {l : Line} {b : List ℕ} (g : Valid d) (n : length b ≡ reportRoom) where
   meet : {s z : Detector} {y q : Reply} {c e : List ℕ} {a : Result} → c ≡ e → s ≡ z → y ≡ q → lineResult (tables d) l ≡ a → Results (record { detector = z; reply = q }) e a → length e ≡ length b → Bytes e → Met d l b s y c
   meet {s} {z} {y} {q} {c} {e} {a} c≡ s≡ y≡ a≡ r w k =
       record {
@@ -115,15 +116,15 @@ module _ {d : Detector} {l : Line} {b : List ℕ} (g : Valid d) (n : length b �
   pub met-served : {e x : Event} {k : ℕ} {r : Done} {c z : List ℕ} {s : Detector} {y : Reply} → l ≡ line.Event e → k ≡ refusal (tables d) (length b) e → k ≡ 0 → e ≡ x → Does r b z (apply x (tables d))
       → length z ≡ length b → Bytes z → c ≡ z → s ≡ r .detector → y ≡ Reports (r .reports) → Met d l b s y c
   met-served {e} {x} {k} {r} {c} {z} h q o u p w t c≡ s≡ y≡ =
-      let none : refusal (tables d) room x ≡ 0 = ap₂ (λ (m : ℕ) (v : Event). refusal (tables d) m v) (sym n) (sym u) ∙ sym q ∙ o in
+      let none : refusal (tables d) reportRoom x ≡ 0 = ap₂ (λ (m : ℕ) (v : Event). refusal (tables d) m v) (sym n) (sym u) ∙ sym q ∙ o in
       meet c≡ s≡ (y≡ ∙ ap Reports (p .count)) (ap (lineResult (tables d)) (h ∙ ap line.Event u) ∙ line-served (tables d) x none)
       (served-results d x (r .detector) b z g n none (record { state = p .state; count = refl; bytes = p .bytes; valid = p .valid })) w t
 
   pub met-refused : {e : Event} {k : ℕ} {c : List ℕ} {s : Detector} {y : Reply} → Bytes b → l ≡ line.Event e → k ≡ refusal (tables d) (length b) e → (k ≡ 0 → ⊥) → c ≡ b → s ≡ d → y ≡ Refused k → Met d l b s y c
   met-refused {e} {k} t h q o c≡ s≡ y≡ =
-      let same : refusal (tables d) room e ≡ k = ap (λ (m : ℕ). refusal (tables d) m e) (sym n) ∙ sym q in
+      let same : refusal (tables d) reportRoom e ≡ k = ap (λ (m : ℕ). refusal (tables d) m e) (sym n) ∙ sym q in
       meet c≡ s≡ y≡ (ap (lineResult (tables d)) h ∙ line-refused (tables d) e (λ z. o (sym same ∙ z)) ∙ ap (λ (m : ℕ). replying (Refused m) (silent (tables d))) same)
-      (refused-results d k b g (omega (arith, refusal-known (tables d) room e .most))) refl t
+      (refused-results d k b g (omega (arith, refusal-known (tables d) reportRoom e .most))) refl t
 
   pub met-unread : {c : List ℕ} {s : Detector} {y : Reply} → Bytes b → l ≡ line.Unread → c ≡ b → s ≡ d → y ≡ Refused 1 → Met d l b s y c
   met-unread t h c≡ s≡ y≡ = meet c≡ s≡ y≡ (ap (lineResult (tables d)) h) (refused-results d 1 b g (omega arith)) refl t

@@ -9,13 +9,14 @@ use lib.Dec.{ltb, lit≤}
 use lib.ListN.{length, take, drop, length-append}
 use borrow.Author.Tests.{ltb-true, ltb-false}
 use lib.Seq.{length-take-le, take-append-seam, drop-append-seam}
-use Rattle.answers.specs.Text.{Put}
-use Rattle.answers.proofs.Puts.{puts-coincide, put-whole}
+use Rattle.text.specs.Promises.{Put}
+use Rattle.text.proofs.Puts.{puts-coincide, put-whole}
 use Rattle.transcript.specs.Chunks.{Mid, start, mid, fed, says, ends, fedAll, saysAll, together}
-use Rattle.transcript.specs.Lines.{linesOf}
+use Rattle.text.specs.Lines.{linesOf}
 use Rattle.transcript.specs.Replay as replay
 use Rattle.transcript.specs.Replay.{limit, begun, after, lineText, lastText, textOf, replayText}
-use Rattle.transcript.specs.Code.{Begins, midOf, between}
+use Rattle.transcript.specs.Promises.{Begins}
+use Rattle.transcript.specs.Code.{midOf, between}
 use Rattle.transcript.specs.Calls.{Calls, none, next, FeedsCoincide, FeedsMove, AllPrinted, answersOf, lastOf, TextsAnswered}
 use Rattle.transcript.specs.declared.run.Run.{Run}
 use Rattle.transcript.proofs.Text.{text-theorem}

@@ -10,7 +10,8 @@ use lib.ListN.{length, take, drop, take-append-drop}
 use lib.Seq.{slice-empty, take-take, take-all, drop-append-le, length-take-le}
 use Rattle.transcript.specs.Replay.{limit}
 use Rattle.transcript.specs.Chunks.{Mid, step, fed}
-use Rattle.transcript.specs.Code.{IsRun, midOf, between, Moves}
+use Rattle.transcript.specs.Promises.{IsRun, Moves}
+use Rattle.transcript.specs.Code.{midOf, between}
 use Rattle.transcript.specs.declared.run.Run.{Run}
 use Rattle.transcript.proofs.Text.{fed-append}
 

@@ -9,7 +9,7 @@ use lib.Dec.{eqb}
 use Rattle.detector.proofs.Validity.{valid-tested}
 use Rattle.answers.specs.Answers.{endRoom}
 use Rattle.transcript.specs.Replay.{limit}
-use Rattle.transcript.specs.Entries.{runTest, feedTest, endTest, RunTaken, FeedTaken, EndTaken}
+use Rattle.transcript.specs.Promises.{runTest, feedTest, endTest, RunTaken, FeedTaken, EndTaken}
 
 pub run-taken : RunTaken
 unfolding runTest

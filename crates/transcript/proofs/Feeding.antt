@@ -9,18 +9,20 @@ use borrow.Author.Tests.{lt-ltb, le-ltb}
 use lib.Dec.{ltb}
 use lib.ListN.{length, take}
 use lib.Seq.{slice-empty}
-use Rattle.answers.specs.Text.{Put}
+use Rattle.text.specs.Promises.{Put}
 use Rattle.answers.specs.Answers.{answerRoom, endText}
-use Rattle.answers.proofs.Puts.{then}
+use Rattle.text.proofs.Puts.{then}
 use native.Mathlib.Decide.{ℕ-discrete}
 use Rattle.detector.specs.Tables.{Tables, empty}
 use Rattle.detector.specs.State.{tables, Valid}
 use Rattle.detector.specs.declared.state.Detector.{Detector}
 use Rattle.detector.specs.Stuck.{stuckCount, edgeCount}
-use Rattle.transcript.specs.Lines.{lineFeed}
+use Rattle.text.specs.Bytes.{lineFeed}
 use Rattle.transcript.specs.Replay.{Run, limit, lastText, after, textOf}
-use Rattle.transcript.specs.Chunks.{carrySize, Mid, mid, step, said, fed, says, ends, lastLine, OpenLine}
-use Rattle.transcript.specs.Code.{runOf, midOf, Begins, IsRun, between, Feeds}
+use Rattle.text.specs.Lines.{carrySize}
+use Rattle.transcript.specs.Chunks.{Mid, mid, step, said, fed, says, ends, lastLine, OpenLine}
+use Rattle.transcript.specs.Code.{runOf, midOf, between}
+use Rattle.transcript.specs.Promises.{Begins, IsRun, Feeds}
 use Rattle.transcript.specs.declared.run.Run as code
 use Rattle.transcript.specs.declared.run.Turned.{Turned}
 use Rattle.transcript.proofs.Text.{says-append, text-full}

@@ -8,12 +8,13 @@ use borrow.Author.Tests.{leb-true, leb-false}
 use lib.Dec.{eqb, ltb, leb}
 use lib.ListN.{length, take, length-take}
 use lib.Seq.{take-all, take-append-le, take-take}
-use Rattle.script.specs.Fields.{onFirst}
+use Rattle.text.specs.Fields.{onFirst}
 use Rattle.script.proofs.Steps.{line-cut}
 use Rattle.detector.specs.Tables.{Tables}
-use Rattle.transcript.specs.Lines.{lineFeed, linesOf}
+use Rattle.text.specs.Bytes.{lineFeed}
+use Rattle.text.specs.Lines.{linesOf, carrySize}
 use Rattle.transcript.specs.Replay.{Run, limit, begun, lineResult, resultOf, after, lineText, lastText, textOf, replayText}
-use Rattle.transcript.specs.Chunks.{carrySize, Mid, mid, start, step, said, fed, says, lastLine, ends, fedAll, saysAll, together, TextTheorem}
+use Rattle.transcript.specs.Chunks.{Mid, mid, start, step, said, fed, says, lastLine, ends, fedAll, saysAll, together, TextTheorem}
 
 -- ---- feeding a and then b is feeding a ++ b
 

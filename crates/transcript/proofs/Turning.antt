@@ -8,23 +8,27 @@ use borrow.Author.Tests.{lt-ltb, eqb-true}
 use lib.Dec.{eqb, ltb}
 use lib.ListN.{length, take, drop, getD, length-take, length-drop}
 use lib.Seq.{take-add, drop-at, length-take-le, take-suc, append-snoc, take-all}
-use Rattle.script.specs.Fields.{upTo}
+use Rattle.text.specs.Fields.{upTo}
 use Rattle.script.specs.Lines.{lineOf}
-use Rattle.script.proofs.Cut.{take-upTo}
+use Rattle.text.proofs.Cut.{take-upTo}
 use Rattle.detector.specs.Tables.{Tables}
 use Rattle.detector.specs.declared.state.Detector.{Detector}
 use Rattle.detector.specs.declared.reply.Answered.{Answered}
-use Rattle.answers.specs.Text.{Room, Put}
-use Rattle.answers.specs.Answers.{replyText, cyclesText, answerText, Held, answerRoom}
+use Rattle.text.specs.Promises.{Room, Put}
+use Rattle.answers.specs.Answers.{replyText, cyclesText, answerText, answerRoom}
+use Rattle.answers.specs.Promises.{Held}
 use Rattle.answers.proofs.Bounds.{Bytes, answer-room, answer-bound}
 use Rattle.waits.specs.Report.{Entry}
-use Rattle.detector.specs.State.{tables, reportsOf, Valid}
+use Rattle.detector.specs.State.{tables, Valid}
+use Rattle.detector.specs.Promises.{reportsOf}
 use Rattle.detector.specs.declared.reply.Reply.{Reply}
-use Rattle.transcript.specs.Lines.{lineFeed}
-use Rattle.demands.specs.Reached.{room}
+use Rattle.text.specs.Bytes.{lineFeed}
+use Rattle.detector.specs.Refusals.{reportRoom}
 use Rattle.transcript.specs.Replay.{Run, Result, limit, lineResult, resultOf, resultText, after, lineText}
-use Rattle.transcript.specs.Chunks.{carrySize, Mid, mid, step, said, fed, says}
-use Rattle.transcript.specs.Code.{runOf, midOf, IsRun, between, Moves}
+use Rattle.text.specs.Lines.{carrySize}
+use Rattle.transcript.specs.Chunks.{Mid, mid, step, said, fed, says}
+use Rattle.transcript.specs.Code.{runOf, midOf, between}
+use Rattle.transcript.specs.Promises.{IsRun, Moves}
 use Rattle.transcript.specs.declared.run.Run as code
 use Rattle.script.specs.declared.line.Line.{Line}
 use Rattle.transcript.proofs.Answering.{Results}
@@ -157,7 +161,7 @@ answer-result n y b a h = ap₂ (λ (q : Reply) (c : List (List Entry)). replyTe
 
 -- there is room for it, and what is put is the result's text
 module _ (n : ℕ) (a : Answered) (b : List ℕ) (q : Result) (small : n < 2 ^ 64) (bytes : Bytes b) (s : Results a b q) (out : List ℕ) (at : ℕ) where
-  pub told-room : length b ≡ room → at + answerRoom ≤ length out → Held (reportsOf (a .reply)) b × Room out at (answerText n (a .reply) b)
+  pub told-room : length b ≡ reportRoom → at + answerRoom ≤ length out → Held (reportsOf (a .reply)) b × Room out at (answerText n (a .reply) b)
   told-room h w = (omega (arith, s .held), answer-room out at n (a .reply) b small (omega (arith, s .small)) bytes (s .few) (s .held) w)
 
   pub told-line : (out′ : List ℕ) (to : ℕ) → Put out at (answerText n (a .reply) b) out′ to

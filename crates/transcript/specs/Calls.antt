@@ -8,13 +8,14 @@ use mathlib.Core.List.{List, [], _∷_, _++_}
 use Prim.Native.Nat.{ℕ, _+_, _<_, _≤_}
 use lib.Dec.{ltb}
 use lib.ListN.{length}
-use Rattle.answers.specs.Text.{Put}
+use Rattle.text.specs.Promises.{Put}
 use Rattle.answers.specs.Answers.{answerRoom}
-use Rattle.transcript.specs.Lines.{linesOf}
+use Rattle.text.specs.Lines.{linesOf}
 use Rattle.transcript.specs.Replay as replay
 use Rattle.transcript.specs.Replay.{limit, begun, after, lineText, lastText, replayText}
 use Rattle.transcript.specs.Chunks.{ends, together}
-use Rattle.transcript.specs.Code.{Begins, Feeds, midOf, between}
+use Rattle.transcript.specs.Promises.{Begins, Feeds}
+use Rattle.transcript.specs.Code.{midOf, between}
 use Rattle.transcript.specs.declared.run.Run.{Run}
 use Rattle.transcript.specs.declared.run.Turned.{Turned}
 

@@ -6,12 +6,8 @@ use mathlib.Core.Bool.{cond}
 use mathlib.Core.List.{List, [], _∷_, _++_}
 use lib.Dec.{eqb, ltb}
 use lib.ListN.{take}
-use Rattle.transcript.specs.Lines.{lineFeed}
+use Rattle.text.specs.Bytes.{lineFeed}
 use Rattle.transcript.specs.Replay.{Run, limit, begun, after, lineText, textOf, replayText}
-
--- the bytes that are carried of a line: one more than a line may have tells that it is too long
-abbrev pub carrySize : ℕ
-carrySize = 41
 
 pub record Mid : Type 0 where
   pub part : List ℕ

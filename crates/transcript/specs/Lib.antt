@@ -1,7 +1,6 @@
 -- A script as a text, what replay prints for it, and the same in chunks.
-pub mod Lines
 pub mod Replay
 pub mod Chunks
 pub mod Code
-pub mod Entries
+pub mod Promises
 pub mod Calls

@@ -8,12 +8,13 @@ use Rattle.detector.specs.Tables.{Tables, Answer, silent, empty}
 use Rattle.detector.specs.Stuck.{stuckCount, edgeCount}
 use Rattle.detector.specs.declared.reply.Reply.{Reply}
 use Rattle.detector.specs.declared.reply.Reply.the-variants.{Refused}
-use Rattle.demands.specs.Reached.{answer, replied, room}
+use Rattle.detector.specs.Effects.{answer, replied}
+use Rattle.detector.specs.Refusals.{reportRoom}
 use Rattle.script.specs.Lines.{lineOf, lineRefusal}
 use Rattle.script.specs.declared.line.Line.{Line}
 use Rattle.script.specs.declared.line.Line.the-variants as line
 use Rattle.answers.specs.Answers.{replyText, cyclesText, endText}
-use Rattle.transcript.specs.Lines.{linesOf}
+use Rattle.text.specs.Lines.{linesOf}
 
 -- the lines that are read
 abbrev pub limit : ℕ
@@ -31,7 +32,7 @@ replying y a = record { tables = a .tables; reply = y; cycles = map entriesOf (a
 
 -- the rules' answer to its event; "a refusal returns its number and the same state and writes nothing"
 abbrev pub lineResult : Tables → Line → Result
-lineResult x (line.Event e) = replying (replied x room e) (answer x room e)
+lineResult x (line.Event e) = replying (replied x reportRoom e) (answer x reportRoom e)
 lineResult x line.Unread = replying (Refused (lineRefusal line.Unread)) (silent x)
 
 unfoldable pub resultOf : Tables → List ℕ → Result

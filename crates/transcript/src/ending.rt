@@ -4,12 +4,13 @@ use answers::put_end;
 use detector::Detector;
 ghost use Prim.Native.Nat.{_+_, _≤_};
 ghost use lib.ListN.{length};
-ghost use Rattle.answers.specs.Text.{Put};
+ghost use Rattle.text.specs.Promises.{Put};
 ghost use Rattle.answers.specs.Answers.{endRoom};
 ghost use Rattle.detector.specs.State.{tables, Valid};
 ghost use Rattle.transcript.specs.Replay.{limit, lastText};
 ghost use Rattle.transcript.specs.Chunks.{ends};
-ghost use Rattle.transcript.specs.Code.{EndAsks, midOf};
+ghost use Rattle.transcript.specs.Promises.{EndAsks};
+ghost use Rattle.transcript.specs.Code.{midOf};
 
 // Lines, edges stored, stuck threads.
 fn put_sums(detector: Detector, lines: usize, out: &mut [u8], at: usize) -> usize

@@ -1,6 +1,6 @@
 // The entries, for anybody: what cannot be a run, a place or a buffer is refused, and then everything is as it was.
 use crate::ending::finish_within;
-use crate::lines::CARRY;
+use text::CARRY;
 use crate::run::LIMIT;
 use crate::run::Run;
 use crate::run::Turned;
@@ -9,8 +9,7 @@ use answers::END_ROOM;
 use detector::Detector;
 ghost use mathlib.Core.Path.{_≡_};
 ghost use mathlib.Core.Bool.{true};
-ghost use Rattle.transcript.specs.Code.{IsRun, FeedAsks, EndAsks};
-ghost use Rattle.transcript.specs.Entries.{runTest, feedTest, endTest, FeedsAny, EndsAny};
+ghost use Rattle.transcript.specs.Promises.{IsRun, FeedAsks, EndAsks, runTest, feedTest, endTest, FeedsAny, EndsAny};
 
 // Whether it is a run between two bytes of a text, with its carry.
 pub fn is_run(run: Run, carry: &[u8]) -> bool

@@ -10,7 +10,6 @@ pub use entry::Fed;
 pub use entry::feed;
 pub use entry::finish;
 pub use entry::is_run;
-pub use lines::CARRY;
 pub use run::LIMIT;
 pub use run::Run;
 pub use run::Turned;

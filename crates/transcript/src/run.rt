@@ -1,5 +1,5 @@
 // A script's run over a chunk, line by line.
-use crate::lines::keep;
+use text::keep;
 use crate::lines::line_of;
 use answers::ANSWER_ROOM;
 use answers::put_answer;
@@ -7,9 +7,9 @@ use detector::Detector;
 use detector::Event;
 use detector::Reply;
 use script::Line;
-use script::up_to;
+use text::up_to;
 ghost use lib.ListN.{length};
-ghost use Rattle.transcript.specs.Code.{Begins, FeedAsks, Feeds};
+ghost use Rattle.transcript.specs.Promises.{Begins, FeedAsks, Feeds};
 
 // Lines behind this one are not read.
 pub const LIMIT: usize = 1000000;

@@ -8,7 +8,8 @@ use native.Mathlib.Omega.{arith}
 use lib.ListN.{length, take, drop, getD, set, replicate, length-map}
 use lib.Seq.{length-take-le, take-append-seam, sets, length-sets}
 use Rattle.sets.proofs.Walk.{upward-zero}
-use Rattle.graph.specs.Code.{answered, added, foundIn, listOf, Fit}
+use Rattle.graph.specs.Code.{answered, added, foundIn, listOf}
+use Rattle.graph.specs.Promises.{Fit}
 use Rattle.graph.specs.declared.path.Path.{Path}
 use Rattle.graph.specs.declared.wait_for_graph.Added.{Added}
 use Rattle.graph.proofs.Fits.{found-in}
@@ -17,7 +18,8 @@ use Rattle.waits.specs.Waiting.{Step, register, renewAll, refreshed, ref
 use Rattle.waits.specs.Report.{Report, Said, report, Entry, entryOf, entryBytes, entriesText, bytesOf, written, quiet, saying}
 use Rattle.waits.specs.Validate.{valid, awaitedLocks, checked, validate}
 use Rattle.waits.specs.Attempt.{judgedOf, judged, sievedOf, settle, block, blockMutex, mutexOn, readOn, writeOn, free, blockWrite, blockFor}
-use Rattle.waits.specs.Code.{told, laid, freeFor, passesFor, Tells}
+use Rattle.waits.specs.Code.{told, freeFor, passesFor}
+use Rattle.waits.specs.Promises.{laid, Tells}
 use Rattle.waits.specs.declared.tables.Waits.{Waits}
 use Rattle.waits.specs.declared.tables.Linked.{Linked}
 use Rattle.waits.specs.declared.tables.Told.{Told}

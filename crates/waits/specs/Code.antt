@@ -1,25 +1,20 @@
 -- What the code's records and masks stand for.
-use mathlib.Core.Path.{_≡_}
 use mathlib.Core.List.{List, [], _∷_, foldl}
 use mathlib.Core.Bool.{Bool, true, false, cond}
-use Prim.Native.Nat.{ℕ, _+_, _≤_}
+use Prim.Native.Nat.{ℕ}
 use lib.Bits.{bitAnd}
-use lib.ListN.{length}
-use lib.Seq.{sets}
 use Rattle.sets.specs.Sets.{with}
 use Rattle.graph.specs.Search.{row}
 use Rattle.graph.specs.Graph.{clearWaitEdges, addOwners}
 use Rattle.graph.specs.Code.{answered, added, sooner}
 use Rattle.graph.specs.declared.wait_for_graph.Added.{Added}
-use Rattle.waits.specs.Tables.{InRange, intentOf}
+use Rattle.waits.specs.Tables.{intentOf}
 use Rattle.waits.specs.Owners.{owners}
 use Rattle.waits.specs.Waiting.{Step, refresh}
 use Rattle.waits.specs.Filter.{unread, passes}
-use Rattle.waits.specs.Report.{Said, written, reportBytes}
 use Rattle.waits.specs.Attempt.{free}
 use Rattle.waits.specs.declared.tables.Waits.{Waits}
 use Rattle.waits.specs.declared.tables.Linked.{Linked}
-use Rattle.waits.specs.declared.tables.Told.{Told}
 use Rattle.waits.specs.declared.intent.Awaits.{Awaits}
 use Rattle.waits.specs.declared.intent.Awaits.the-variants.{Nothing, For}
 use Rattle.waits.specs.declared.intent.WaitMode.{WaitMode}
@@ -28,21 +23,6 @@ use Rattle.waits.specs.declared.intent.WaitMode.the-variants.{Mutex, RwR
 -- the code's record of a step
 abbrev pub told : Step → Linked
 told s = record { waits = s .waits; sought = answered (s .found) }
-
--- the buffer b with the bytes s from a place on; the rest as it was
-unfoldable pub laid : List ℕ → ℕ → List ℕ → List ℕ
-laid b at s = sets b at s
-
--- what the code tells is what was said: the tables, the number of reports, and every byte of the buffer, b before and e
--- after; at most one report, of at most reportBytes
-pub record Tells (r : Told) (b e : List ℕ) (from : ℕ) (a : Said) : Type 0 where
-  pub waits : r .waits ≡ a .waits
-  pub count : r .reports ≡ length (a .reports)
-  pub bytes : e ≡ laid b from (written (a .reports))
-  pub used : r .used ≡ from + length (written (a .reports))
-  pub room : r .used ≤ from + reportBytes
-  pub few : r .reports ≤ 1
-  pub inRange : InRange (r .waits)
 
 -- THE CODE'S OWN STEPS
 abbrev pub afterC : Added → Added → Added

@@ -7,3 +7,4 @@ pub mod Report
 pub mod Validate
 pub mod Attempt
 pub mod Code
+pub mod Promises

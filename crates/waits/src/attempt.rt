@@ -2,11 +2,13 @@
 ghost use mathlib.Core.Path.{_≡_};
 ghost use Prim.Native.Nat.{_+_, _<_, _≤_};
 ghost use lib.ListN.{length};
-ghost use Rattle.graph.specs.Code.{Fit, foundIn, listOf};
+ghost use Rattle.graph.specs.Promises.{Fit};
+ghost use Rattle.graph.specs.Code.{foundIn, listOf};
 ghost use Rattle.waits.specs.Tables.{InRange};
 ghost use Rattle.waits.specs.Attempt.{judgedOf, settle, free, blockFor};
 ghost use Rattle.waits.specs.Report.{reportBytes};
-ghost use Rattle.waits.specs.Code.{freeFor, passesFor, Tells};
+ghost use Rattle.waits.specs.Code.{freeFor, passesFor};
+ghost use Rattle.waits.specs.Promises.{Tells};
 use crate::intent::WaitIntent;
 use crate::intent::WaitMode;
 use crate::tables::Told;

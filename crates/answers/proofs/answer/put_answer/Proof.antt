@@ -1,6 +1,6 @@
 use borrow.Author.Needs.{needs}
 use Rattle.answers.proofs.Items.{answer-ok, answer-no}
-use Rattle.answers.proofs.Puts.{then, room-first, room-then}
+use Rattle.text.proofs.Puts.{then, room-first, room-then}
 use Rattle.answers.specs.Answers.{answerText}
 use Rattle.answers.proofs.answer.put_answer.Statement.{statement}
 use Rattle.answers.proofs.answer.put_answer.Tie as tie

@@ -2,7 +2,7 @@ use borrow.Author.Needs.{needs}
 use native.Mathlib.Omega.{arith}
 use Rattle.answers.proofs.Items.{end-parts}
 use Rattle.answers.proofs.Bounds.{end-length}
-use Rattle.answers.proofs.Puts.{then}
+use Rattle.text.proofs.Puts.{then}
 use Rattle.answers.proofs.answer.put_end.Statement.{statement}
 use Rattle.answers.proofs.answer.put_end.Tie as tie
 

@@ -3,7 +3,7 @@ use mathlib.Core.Path.{refl, sym, ap, _∙_}
 use native.Mathlib.Omega.{arith}
 use Rattle.answers.proofs.Bounds.{reply-length}
 use Rattle.answers.proofs.Items.{reply-parts}
-use Rattle.answers.proofs.Puts.{then}
+use Rattle.text.proofs.Puts.{then}
 use Rattle.answers.specs.Answers.{number}
 use Rattle.answers.proofs.answer.put_reply.Statement.{statement}
 use Rattle.answers.proofs.answer.put_reply.Tie as tie

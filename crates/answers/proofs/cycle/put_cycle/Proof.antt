@@ -2,7 +2,7 @@ use borrow.Author.Needs.{needs}
 use native.Mathlib.Omega.{arith}
 use Rattle.answers.proofs.Bounds.{cycle-at-length}
 use Rattle.answers.proofs.Items.{cycle-parts, report-at}
-use Rattle.answers.proofs.Puts.{then}
+use Rattle.text.proofs.Puts.{then}
 use Rattle.answers.proofs.cycle.put_cycle.Statement.{statement}
 use Rattle.answers.proofs.cycle.put_cycle.Tie as tie
 

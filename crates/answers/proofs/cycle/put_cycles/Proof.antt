@@ -4,7 +4,7 @@ use Prim.Native.Nat.{_+_}
 use native.Mathlib.Omega.{arith}
 use lib.ListN.{length, drop}
 use Rattle.answers.proofs.Items.{cycles-more, cycles-none, size-more}
-use Rattle.answers.proofs.Puts.{Done, done-none, done-more, done-all, done-room, put-length}
+use Rattle.text.proofs.Puts.{Done, done-none, done-more, done-all, done-room, put-length}
 use Rattle.answers.specs.Answers.{cyclesText}
 use Rattle.answers.specs.Reports.{reportsIn, reportsSize}
 use Rattle.answers.proofs.cycle.put_cycles.Statement.{statement}

@@ -3,7 +3,7 @@ use mathlib.Core.Path.{refl}
 use native.Mathlib.Omega.{arith}
 use Rattle.answers.proofs.Bounds.{item-length}
 use Rattle.answers.proofs.Items.{item-parts}
-use Rattle.answers.proofs.Puts.{then}
+use Rattle.text.proofs.Puts.{then}
 use Rattle.answers.proofs.cycle.put_item.Statement.{statement}
 use Rattle.answers.proofs.cycle.put_item.Tie as tie
 

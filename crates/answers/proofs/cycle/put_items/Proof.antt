@@ -4,7 +4,7 @@ use Prim.Native.Nat.{_+_, _*_}
 use native.Mathlib.Omega.{arith}
 use lib.ListN.{length, drop}
 use Rattle.answers.proofs.Items.{items-more, items-none}
-use Rattle.answers.proofs.Puts.{Done, done-none, done-more, done-all, done-room, put-length}
+use Rattle.text.proofs.Puts.{Done, done-none, done-more, done-all, done-room, put-length}
 use Rattle.answers.specs.Answers.{itemsText}
 use Rattle.waits.specs.Report.{entryBytes}
 use Rattle.answers.specs.Reports.{entriesIn}

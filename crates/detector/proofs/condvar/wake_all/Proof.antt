@@ -1,6 +1,6 @@
 use Rattle.waits.specs.Report.{reportBytes}
 use Rattle.detector.proofs.Queues.{wake-step, wake-none}
-use Rattle.detector.specs.State.{Wakes}
+use Rattle.detector.specs.Promises.{Wakes}
 use Rattle.detector.specs.Condvar.{Woken, wakeAll}
 use Rattle.waits.specs.Tables.{InRange}
 use borrow.Author.Needs.{needs}

@@ -1,5 +1,6 @@
 use Rattle.graph.proofs.Trails.{count-le, met-of, on-of, none-of, start-idle}
-use Rattle.graph.specs.Code.{Sound, trailOf, answered}
+use Rattle.graph.specs.Promises.{Sound}
+use Rattle.graph.specs.Code.{trailOf, answered}
 use Rattle.graph.specs.Search.{search, findPath}
 use mathlib.Core.Path.{_≡_, sym, ap, _∙_}
 use Prim.Native.Nat.{_-_, _≤_}

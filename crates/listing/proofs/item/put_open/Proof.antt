@@ -1,4 +1,4 @@
-use Rattle.answers.proofs.Puts.{then, room-then, room-first}
+use Rattle.text.proofs.Puts.{then, room-then, room-first}
 use Rattle.listing.proofs.Items.{opening-new, opening-old, opened-new, opened-old}
 use borrow.Author.Needs.{needs}
 use Rattle.listing.proofs.item.put_open.Statement.{statement}

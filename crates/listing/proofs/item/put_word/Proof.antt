@@ -1,4 +1,4 @@
-use Rattle.answers.proofs.Puts.{then, room-then, room-first}
+use Rattle.text.proofs.Puts.{then, room-then, room-first}
 use Rattle.listing.proofs.Items.{one-room, one-lists}
 use Rattle.listing.specs.Listing.{three}
 use borrow.Author.Needs.{needs}

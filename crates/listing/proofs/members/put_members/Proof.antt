@@ -1,4 +1,4 @@
-use Rattle.answers.proofs.Puts.{put-length}
+use Rattle.text.proofs.Puts.{put-length}
 use Rattle.listing.proofs.Items.{Partly, partly-none, partly-room, partly-more, partly-all, table-room, close-room, closed, members-more, members-none}
 use Rattle.listing.specs.Listing.{membersOf}
 use Rattle.sets.specs.Sets.{lowest}

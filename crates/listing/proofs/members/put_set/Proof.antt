@@ -1,4 +1,4 @@
-use Rattle.answers.proofs.Puts.{put-length}
+use Rattle.text.proofs.Puts.{put-length}
 use Rattle.listing.proofs.Items.{Partly, partly-none, partly-room, partly-more, partly-all, set-more, set-none}
 use Rattle.listing.specs.Listing.{setItems}
 use Rattle.sets.specs.Sets.{lowest}

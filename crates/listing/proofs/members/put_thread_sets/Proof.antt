@@ -1,7 +1,7 @@
 use Rattle.listing.proofs.Items.{Partly, partly-on, partly-room, partly-more, partly-all, table-room, close-room, closed, along-more, along-none, partly-start}
 use Rattle.listing.specs.Listing.{along, setItems, setsItems}
 use Rattle.graph.specs.Search.{row}
-use Rattle.answers.proofs.Puts.{put-length}
+use Rattle.text.proofs.Puts.{put-length}
 use borrow.Author.Needs.{needs}
 use mathlib.Core.Path.{_≡_, refl, _∙_}
 use Prim.Native.Nat.{_-_, _≤_}

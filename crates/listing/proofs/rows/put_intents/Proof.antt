@@ -1,7 +1,7 @@
 use Rattle.waits.specs.Tables.{noSlot}
 use Rattle.listing.proofs.Items.{Partly, partly-room, partly-more, partly-all, table-room, close-room, closed, along-more, along-none, partly-start}
 use Rattle.listing.specs.Listing.{along, intentItem, intentsItems}
-use Rattle.answers.proofs.Puts.{put-length}
+use Rattle.text.proofs.Puts.{put-length}
 use borrow.Author.Needs.{needs}
 use mathlib.Core.Path.{_≡_, refl, _∙_}
 use Prim.Native.Nat.{_-_, _≤_}

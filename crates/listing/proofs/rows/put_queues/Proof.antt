@@ -1,7 +1,7 @@
 use Rattle.listing.proofs.Items.{Partly, partly-on, partly-start, partly-room, partly-more, partly-all, table-room, close-room, closed, queueAt, queues-more, along-none}
 use Rattle.listing.specs.Listing.{along, queuesItems}
 use Rattle.detector.specs.State.{pairsOf}
-use Rattle.answers.proofs.Puts.{put-length}
+use Rattle.text.proofs.Puts.{put-length}
 use mathlib.Core.List.{map}
 use borrow.Author.Needs.{needs}
 use mathlib.Core.Path.{_≡_, refl, _∙_}

@@ -1,6 +1,6 @@
 use Rattle.listing.proofs.Items.{Partly, partly-on, partly-start, partly-room, partly-more, partly-all, table-room, close-room, closed, along-more, along-none}
 use Rattle.listing.specs.Listing.{along, readersOf, readersItems}
-use Rattle.answers.proofs.Puts.{put-length}
+use Rattle.text.proofs.Puts.{put-length}
 use borrow.Author.Needs.{needs}
 use mathlib.Core.Path.{_≡_, refl, _∙_}
 use Prim.Native.Nat.{_-_, _≤_}

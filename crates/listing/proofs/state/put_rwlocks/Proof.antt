@@ -1,4 +1,4 @@
-use Rattle.answers.proofs.Puts.{then, room-then, room-first}
+use Rattle.text.proofs.Puts.{then, room-then, room-first}
 use Rattle.listing.specs.Listing.{rwlocksText}
 use borrow.Author.Needs.{needs}
 use Rattle.listing.proofs.state.put_rwlocks.Statement.{statement}

@@ -1,5 +1,5 @@
-use Rattle.demands.specs.Reached.{room}
-use Rattle.transcript.specs.Code.{Moves}
+use Rattle.detector.specs.Refusals.{reportRoom}
+use Rattle.transcript.specs.Promises.{Moves}
 use Rattle.transcript.proofs.Chunk.{moves-none, moves-on, moves-all, moves-full}
 use Rattle.runner.specs.Code.{space}
 use lib.Seq.{length-take-le}
@@ -13,7 +13,7 @@ use Rattle.runner.proofs.chunks.take_chunk.Statement.{statement}
 use Rattle.runner.proofs.chunks.take_chunk.Tie as tie
 
 abbrev Inv-loop : tie.InvT-loop
-Inv-loop tables carry₀ chunk out₀ buf₀ r₀ i₀ carry out buf r i = Moves r₀ carry₀ chunk 0 i r carry × (length out ≡ space) × (length buf ≡ room) × (length carry ≡ length carry₀) × (length out ≡ length out₀) × (length buf ≡ length buf₀)
+Inv-loop tables carry₀ chunk out₀ buf₀ r₀ i₀ carry out buf r i = Moves r₀ carry₀ chunk 0 i r carry × (length out ≡ space) × (length buf ≡ reportRoom) × (length carry ≡ length carry₀) × (length out ≡ length out₀) × (length buf ≡ length buf₀)
 
 abbrev μ-loop : tie.MeasureT-loop
 μ-loop tables carry₀ chunk out₀ buf₀ r₀ i₀ carry out buf r i = length chunk - i

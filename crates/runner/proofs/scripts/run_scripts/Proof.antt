@@ -1,5 +1,5 @@
-use Rattle.demands.specs.Reached.{room}
-use Rattle.transcript.specs.Chunks.{carrySize}
+use Rattle.detector.specs.Refusals.{reportRoom}
+use Rattle.text.specs.Lines.{carrySize}
 use Rattle.runner.specs.Code.{space}
 use borrow.Author.Needs.{needs}
 use mathlib.Core.Path.{_≡_}
@@ -9,7 +9,7 @@ use Rattle.runner.proofs.scripts.run_scripts.Statement.{statement}
 use Rattle.runner.proofs.scripts.run_scripts.Tie as tie
 
 abbrev Inv-loop : tie.InvT-loop
-Inv-loop program tables inp₀ out₀ carry₀ buf₀ n i₀ inp out carry buf i = (length inp ≡ 65536) × (length carry ≡ carrySize) × (length out ≡ space) × (length buf ≡ room)
+Inv-loop program tables inp₀ out₀ carry₀ buf₀ n i₀ inp out carry buf i = (length inp ≡ 65536) × (length carry ≡ carrySize) × (length out ≡ space) × (length buf ≡ reportRoom)
 
 abbrev μ-loop : tie.MeasureT-loop
 μ-loop program tables inp₀ out₀ carry₀ buf₀ n i₀ inp out carry buf i = n - i

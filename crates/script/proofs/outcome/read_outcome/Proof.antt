@@ -1,6 +1,6 @@
 use borrow.Author.Needs.{needs}
 use mathlib.Core.Path.{sym, _∙_}
-use Rattle.script.specs.Number.{outcomeOf}
+use Rattle.script.specs.Outcomes.{outcomeOf}
 use Rattle.script.proofs.outcome.read_outcome.Statement.{statement}
 use Rattle.script.proofs.outcome.read_outcome.Tie as tie
 

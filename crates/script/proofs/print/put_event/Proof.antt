@@ -1,6 +1,6 @@
 use borrow.Author.Needs.{needs}
 use Rattle.script.proofs.Printing.{event-one, event-two, event-three}
-use Rattle.answers.proofs.Puts.{then, room-first, room-then}
+use Rattle.text.proofs.Puts.{then, room-first, room-then}
 use Rattle.script.proofs.print.put_event.Statement.{statement}
 use Rattle.script.proofs.print.put_event.Tie as tie
 

@@ -1,5 +1,5 @@
 use borrow.Author.Needs.{needs}
-use Rattle.answers.proofs.Puts.{then}
+use Rattle.text.proofs.Puts.{then}
 use Rattle.script.proofs.print.put_word.Statement.{statement}
 use Rattle.script.proofs.print.put_word.Tie as tie
 

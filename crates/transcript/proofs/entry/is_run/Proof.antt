@@ -1,4 +1,4 @@
-use Rattle.transcript.specs.Entries.{runTest}
+use Rattle.transcript.specs.Promises.{runTest}
 use borrow.Author.Needs.{needs}
 use mathlib.Core.Bool.{false≢true}
 use Prim.Native.Nat.{_-_}

@@ -1,4 +1,4 @@
-use Rattle.transcript.specs.Entries.{endTest}
+use Rattle.transcript.specs.Promises.{endTest}
 use mathlib.Core.Logic.{inl, inr}
 use borrow.Author.Needs.{needs}
 use mathlib.Core.Bool.{false≢true}

@@ -1,7 +1,7 @@
 use Rattle.transcript.proofs.Answering.{Met, met-served, met-refused, met-unread}
 use Rattle.transcript.proofs.Turning.{Goes, told-room, told-line, carried-turn, line-turn}
 use Rattle.transcript.proofs.Feeding.{goes-none, goes-on, goes-done}
-use Rattle.demands.specs.Reached.{room}
+use Rattle.detector.specs.Refusals.{reportRoom}
 use Rattle.answers.proofs.Bounds.{Bytes}
 use Rattle.detector.specs.State.{tables, Valid}
 use Rattle.detector.proofs.Numbers.{Accepted, accepted, room-left}
@@ -18,7 +18,7 @@ use Rattle.transcript.proofs.run.feed_within.Tie as tie
 abbrev Inv-loop : tie.InvT-loop
 Inv-loop carry₀ chunk from out₀ at buf₀ s₀ n₀ h₀ i₀ to₀ carry out buf s n h i to =
     Goes (record { detector = s₀; lines = n₀; have = h₀ }) carry₀ chunk from out₀ at carry out (record { detector = s; lines = n; have = h }) i to
-    × (length buf ≡ room) × Bytes buf × (length carry ≡ length carry₀) × (length out ≡ length out₀) × (length buf ≡ length buf₀) × (to ≤ length out)
+    × (length buf ≡ reportRoom) × Bytes buf × (length carry ≡ length carry₀) × (length out ≡ length out₀) × (length buf ≡ length buf₀) × (to ≤ length out)
 
 abbrev μ-loop : tie.MeasureT-loop
 μ-loop carry₀ chunk from out₀ at buf₀ s₀ n₀ h₀ i₀ to₀ carry out buf s n h i to = length chunk - i

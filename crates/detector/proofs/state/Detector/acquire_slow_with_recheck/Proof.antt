@@ -2,7 +2,7 @@ use Rattle.detector.proofs.Promises.{redo, does-told, idle-tells, tells
 use Rattle.detector.specs.Mutex.{acquired, completeAcquire, acquireSlow, mutexAttempt}
 use Rattle.detector.specs.Code.{hinted}
 use Rattle.detector.specs.State.{tables}
-use Rattle.waits.specs.Code.{Tells}
+use Rattle.waits.specs.Promises.{Tells}
 use Rattle.waits.specs.Tables.{ownerOf, own}
 use Rattle.waits.specs.Attempt.{settle, blockMutex}
 use borrow.Author.Needs.{needs}

@@ -2,7 +2,7 @@ use Rattle.detector.proofs.Promises.{redo, does-told, idle-tells, tells
 use Rattle.detector.specs.RwLock.{writeAcquired, completeWrite, acquireWrite, writeAttempt}
 use Rattle.detector.specs.Code.{hinted}
 use Rattle.detector.specs.State.{tables}
-use Rattle.waits.specs.Code.{Tells}
+use Rattle.waits.specs.Promises.{Tells}
 use Rattle.waits.specs.Tables.{writerOf, write}
 use Rattle.waits.specs.Attempt.{settle, blockWrite}
 use borrow.Author.Needs.{needs}

@@ -1,6 +1,6 @@
 use Rattle.detector.proofs.Promises.{redo, does-told, idle-tells, tells-length}
 use Rattle.detector.specs.Mutex.{acquired, completeAcquire}
-use Rattle.waits.specs.Code.{Tells}
+use Rattle.waits.specs.Promises.{Tells}
 use Rattle.waits.specs.Attempt.{settle}
 use borrow.Author.Needs.{needs}
 use mathlib.Core.Logic.{⊎-elim}

@@ -1,5 +1,6 @@
 use Rattle.sets.proofs.Walk.{fold-step, fold-done}
-use Rattle.graph.specs.Code.{Sound, trailOf}
+use Rattle.graph.specs.Promises.{Sound}
+use Rattle.graph.specs.Code.{trailOf}
 use Rattle.graph.specs.Search.{expand}
 use borrow.Author.Needs.{needs}
 use mathlib.Core.Path.{_≡_, refl, sym, _∙_}

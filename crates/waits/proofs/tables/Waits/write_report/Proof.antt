@@ -1,5 +1,5 @@
 use Rattle.waits.proofs.Telling.{told-by, entry-step, entry-end, report-head}
-use Rattle.waits.specs.Code.{laid}
+use Rattle.waits.specs.Promises.{laid}
 use Rattle.waits.specs.Report.{entryBytes}
 use Rattle.graph.specs.Code.{listOf}
 use borrow.Author.Needs.{needs}

@@ -1,0 +1,48 @@
+-- HOW MANY REPORTS an event gives, and how many bytes they take.
+use mathlib.Core.List.{List}
+use Prim.Native.Nat.{ℕ, _<_, _≤_}
+use lib.ListN.{length}
+use Rattle.waits.specs.Report.{Report, written}
+use Rattle.detector.specs.Refusals.{reportRoom}
+use Rattle.detector.specs.Tables.{Tables, queueOf}
+use Rattle.detector.specs.State.{tables, Valid}
+use Rattle.detector.specs.Effects.{answer}
+use Rattle.detector.specs.declared.event.Event.{Event}
+use Rattle.detector.specs.declared.event.Event.the-variants.{MutexAttempt, MutexAcquired, MutexReleased, MutexExit, RwReadAttempt, RwReadAcquired, RwReadTry, RwReadReleased, RwWriteAttempt, RwWriteAcquired, RwWriteReleased, RwExit, CondvarSpawn, CondvarExit, CondvarWaitBegin, CondvarNotifyOne, CondvarNotifyAll, CondvarWaitEnd}
+use Rattle.detector.specs.declared.state.Detector.{Detector}
+
+-- ca gives at most 32 reports, ma, mc, ra, wa, wc and c1 at most one, the others none
+abbrev pub most : Event → ℕ
+most (MutexAttempt t l o) = 1
+most (MutexAcquired t l) = 1
+most (MutexReleased t l) = 0
+most (MutexExit l) = 0
+most (RwReadAttempt t l o) = 1
+most (RwReadAcquired t l) = 0
+most (RwReadTry t l o) = 0
+most (RwReadReleased t l) = 0
+most (RwWriteAttempt t l o) = 1
+most (RwWriteAcquired t l) = 1
+most (RwWriteReleased t l) = 0
+most (RwExit l) = 0
+most (CondvarSpawn c) = 0
+most (CondvarExit c) = 0
+most (CondvarWaitBegin t c l) = 0
+most (CondvarNotifyOne c) = 1
+most (CondvarNotifyAll c) = 32
+most (CondvarWaitEnd t c l) = 0
+
+-- so few reports, and 2,080 bytes always suffice
+pub record Brief (e : Event) (rs : List Report) : Type 0 where
+  pub few : length rs ≤ most e
+  pub room : length (written rs) ≤ reportRoom
+
+-- THE THEOREMS (`all-brief`, `valid-brief`): wherever no queue is longer than 32, so in every valid state of the code
+abbrev pub ShortQueues : Tables → Type 0
+ShortQueues x = (c : ℕ) → c < 16 → length (queueOf x c) ≤ 32
+
+abbrev pub AllBrief : Type 0
+AllBrief = (x : Tables) (room : ℕ) (e : Event) → ShortQueues x → Brief e (answer x room e .reports)
+
+abbrev pub ValidBrief : Type 0
+ValidBrief = (d : Detector) (room : ℕ) (e : Event) → Valid d → Brief e (answer (tables d) room e .reports)

@@ -1,0 +1,45 @@
+-- WHAT THE CODE'S TYPES HOLD of a state, valid or not: how long its tables are, and how large a number of each can be.
+-- Of every state of the code it is proved: `typed` (src/types.rt).
+use mathlib.Core.Path.{_≡_}
+use mathlib.Core.List.{List}
+use Prim.Native.Nat.{ℕ, _<_, _^_}
+use lib.ListN.{getD, length}
+use Rattle.waits.specs.Tables.{intentOf, lockOf}
+use Rattle.detector.specs.Tables.{noPair, blankWait}
+use Rattle.detector.specs.State.{blankQueue}
+use Rattle.detector.specs.declared.state.Detector.{Detector}
+use Rattle.detector.specs.declared.state.Queue.{Queue}
+use Rattle.detector.specs.declared.state.CvWait.{CvWait}
+
+-- n numbers, each below max: [u8; n], [u32; n], [u64; n]
+pub record Table (l : List ℕ) (n max : ℕ) : Type 0 where
+  pub long : length l ≡ n
+  pub small : (i : ℕ) → getD l i 0 < max
+
+-- 32 pairs of bytes, and a byte
+pub record Places (q : Queue) : Type 0 where
+  pub long : length (q .pairs) ≡ 32
+  pub threads : (k : ℕ) → getD (q .pairs) k noPair .thread < 256
+  pub locks : (k : ℕ) → getD (q .pairs) k noPair .lock < 256
+  pub len : q .len < 256
+
+-- two bytes
+pub record Wait (v : CvWait) : Type 0 where
+  pub condvar : v .condvar < 256
+  pub lock : v .lock < 256
+
+pub record Typed (d : Detector) : Type 0 where
+  pub edges : Table (d .waits .«wait_for_graph» .edges) 32 (2 ^ 32)
+  pub incoming : Table (d .waits .«wait_for_graph» .«incoming_edges») 32 (2 ^ 32)
+  pub slots : length (d .waits .«thread_waits_for») ≡ 32
+  pub intents : (t : ℕ) → lockOf (intentOf (d .waits) t) < 256
+  pub waiters : Table (d .waits .«lock_waiters») 64 (2 ^ 32)
+  pub holds : Table (d .waits .«thread_holds») 32 (2 ^ 64)
+  pub owners : Table (d .waits .«mutex_owners») 64 256
+  pub writers : Table (d .waits .«rwlock_writer») 64 256
+  pub woken : d .«cv_woken» < 2 ^ 32
+  pub readers : Table (d .«rwlock_readers») 2048 256
+  pub queues : length (d .rest .«cv_waiters») ≡ 16
+  pub places : (c : ℕ) → c < 16 → Places (getD (d .rest .«cv_waiters») c blankQueue)
+  pub sleepers : length (d .rest .«thread_wait_cv») ≡ 32
+  pub waits : (t : ℕ) → Wait (getD (d .rest .«thread_wait_cv») t blankWait)

@@ -1,0 +1,79 @@
+// Every state that the code can hold is `Typed`: `typed` does nothing, and is here for its contract. What the types hold of a
+// struct is known of one alone, and not of one among others: so each struct of a table is read.
+ghost use Prim.Native.Nat.{ℕ, _<_};
+ghost use lib.ListN.{getD};
+ghost use Rattle.waits.specs.Tables.{noSlot, lockOf};
+ghost use Rattle.detector.specs.Tables.{blankWait};
+ghost use Rattle.detector.specs.State.{blankQueue};
+ghost use Rattle.detector.specs.Typed.{Places, Wait, Typed};
+use crate::state::CvWait;
+use crate::state::Detector;
+use crate::state::Pair;
+use crate::state::Queue;
+use waits::Slot;
+
+fn pair(p: Pair)
+    ensures { λ _. ⌜ (p .thread < 256) × (p .lock < 256) ⌝ }
+{}
+
+fn queue(q: Queue)
+    ensures { λ _. ⌜ Places q ⌝ }
+{
+    let mut k = 0;
+    while k < 32 {
+        let p = q.pairs[k];
+        pair(p);
+        k += 1;
+    }
+}
+
+fn queues(qs: [Queue; 16])
+    ensures { λ _. ⌜ ((c : ℕ) → c < 16 → Places (getD qs c blankQueue)) ⌝ }
+{
+    let mut c = 0;
+    while c < 16 {
+        let q = qs[c];
+        queue(q);
+        c += 1;
+    }
+}
+
+fn sleeper(v: CvWait)
+    ensures { λ _. ⌜ Wait v ⌝ }
+{}
+
+fn sleepers(vs: [CvWait; 32])
+    ensures { λ _. ⌜ ((t : ℕ) → Wait (getD vs t blankWait)) ⌝ }
+{
+    let mut t = 0;
+    while t < 32 {
+        let v = vs[t];
+        sleeper(v);
+        t += 1;
+    }
+}
+
+// The lock of an intent is what `lock` gives, a byte.
+fn intents(ss: [Slot; 32])
+    ensures { λ _. ⌜ ((t : ℕ) → lockOf (getD ss t noSlot .awaits) < 256) ⌝ }
+{
+    let mut t = 0;
+    while t < 32 {
+        let s = ss[t];
+        s.lock();
+        t += 1;
+    }
+}
+
+pub fn typed(d: Detector)
+    ensures { λ _. ⌜ Typed d ⌝ }
+{
+    let w = d.waits;
+    let rest = d.rest;
+    let slots = w.thread_waits_for;
+    let waiters = rest.cv_waiters;
+    let waiting = rest.thread_wait_cv;
+    intents(slots);
+    queues(waiters);
+    sleepers(waiting);
+}

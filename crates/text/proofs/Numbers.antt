@@ -1,0 +1,103 @@
+-- Numbers and outcomes digit by digit.
+use mathlib.Core.Path.{_≡_, refl, ap}
+use mathlib.Core.Bool.{Bool, true, false, cond}
+use mathlib.Core.List.{List, [], _∷_}
+use Prim.Native.Nat.{ℕ, zero, suc, _+_, _*_, _-_, _<_, _≤_, _^_}
+use native.Mathlib.Omega.{arith}
+use native.Mathlib.Numerals.{add-one}
+use borrow.Author.Tests.{eq-eqb, ne-eqb, lt-ltb, le-ltb}
+use lib.Dec.{eqb, ltb}
+use lib.ListN.{length, drop, getD, drop-of-length-le}
+use lib.Seq.{drop-cons, drop-length}
+use Rattle.text.specs.Numbers.{digitsFrom, numberOf}
+use Rattle.text.specs.Bytes.{same}
+use Rattle.text.specs.declared.number.NumberRead.{NumberRead}
+use Rattle.text.specs.declared.number.NumberRead.the-variants as number
+
+pub number-none : (s : List ℕ) → length s ≡ 0 → number.Bad ≡ numberOf s
+unfolding numberOf
+number-none [] h = refl
+number-none (a ∷ s) h = absurd (omega arith)
+
+pub number-long : (s : List ℕ) → 3 < length s → number.Bad ≡ numberOf s
+unfolding numberOf
+number-long [] h = absurd (omega arith)
+number-long (a ∷ []) h = absurd (omega arith)
+number-long (a ∷ b ∷ bs) h = long (eqb a 48) bs _ (omega arith)
+  where
+    long : (t : Bool) (bs : List ℕ) (x : NumberRead) → 1 < length bs → number.Bad ≡ cond t number.Bad (cond (ltb 1 (length bs)) number.Bad x)
+    long true bs x h = refl
+    long false bs x h = rw (lt-ltb _ _ h)
+
+pub number-zero : (s : List ℕ) → 1 < length s → getD s 0 0 ≡ 48 → number.Bad ≡ numberOf s
+unfolding numberOf
+number-zero [] h e = absurd (omega arith)
+number-zero (a ∷ []) h e = absurd (omega arith)
+number-zero (a ∷ b ∷ bs) h e = rw (eq-eqb _ _ e)
+
+pub number-one : (s : List ℕ) → 0 < length s → length s ≤ 1 → digitsFrom 0 s ≡ numberOf s
+unfolding numberOf
+number-one [] h g = absurd (omega arith)
+number-one (a ∷ []) h g = refl
+number-one (a ∷ b ∷ bs) h g = absurd (omega arith)
+
+pub number-more : (s : List ℕ) → 1 < length s → length s ≤ 3 → (getD s 0 0 ≡ 48 → ⊥) → digitsFrom 0 s ≡ numberOf s
+unfolding numberOf
+number-more [] h g e = absurd (omega arith)
+number-more (a ∷ []) h g e = absurd (omega arith)
+number-more (a ∷ b ∷ bs) h g e = rw (ne-eqb _ _ e, le-ltb 1 (length bs) (omega arith))
+
+module _ (v : ℕ) (s : List ℕ) (i : ℕ) (h : i < length s) where
+  pub digit-low : getD s i 0 < 48 → number.Bad ≡ digitsFrom v (drop i s)
+  unfolding digitsFrom
+  digit-low g = rw (drop-cons s i 0 h, lt-ltb _ _ g)
+
+  pub digit-high : 57 < getD s i 0 → number.Bad ≡ digitsFrom v (drop i s)
+  unfolding digitsFrom
+  digit-high g = rw (drop-cons s i 0 h, le-ltb (getD s i 0) 48 (omega arith), lt-ltb _ _ g)
+
+  pub digit-on : 48 ≤ getD s i 0 → getD s i 0 ≤ 57 → digitsFrom v (drop i s) ≡ digitsFrom (v * 10 + (getD s i 0 - 48)) (drop (i + 1) s)
+  unfolding digitsFrom
+  digit-on g k = rw (drop-cons s i 0 h, le-ltb (getD s i 0) 48 g, le-ltb 57 (getD s i 0) k, add-one)
+
+pub digits-end : (v : ℕ) (s : List ℕ) → digitsFrom v (drop (length s) s) ≡ number.Is v
+unfolding digitsFrom
+digits-end v s = rw (drop-length s)
+
+pub grows : (i v w : ℕ) → i < 3 → v < 10 ^ i → w < 10 → v * 10 + w < 10 ^ (i + 1)
+grows zero v w h g k = omega arith
+grows (suc zero) v w h g k = omega arith
+grows (suc (suc zero)) v w h g k = omega arith
+grows (suc (suc (suc i))) v w h g k = absurd (omega arith)
+
+pub below-hundred : (i v : ℕ) → i < 3 → v < 10 ^ i → v < 100
+below-hundred zero v h g = omega arith
+below-hundred (suc zero) v h g = omega arith
+below-hundred (suc (suc zero)) v h g = omega arith
+below-hundred (suc (suc (suc i))) v h g = absurd (omega arith)
+
+-- ---- two texts from i on
+
+pub same-short : (s t : List ℕ) → (length s ≡ length t → ⊥) → false ≡ same s t
+unfolding same
+same-short [] [] h = absurd (h refl)
+same-short [] (b ∷ t) h = refl
+same-short (a ∷ s) [] h = refl
+same-short (a ∷ s) (b ∷ t) h = either (eqb a b) _ (same-short s t (λ e. h (ap suc e)))
+  where
+    either : (t : Bool) (x : Bool) → false ≡ x → false ≡ cond t x false
+    either true x e = e
+    either false x e = refl
+
+module _ (s t : List ℕ) (i : ℕ) (h : i < length s) (g : i < length t) where
+  pub same-not : (getD s i 0 ≡ getD t i 0 → ⊥) → false ≡ same (drop i s) (drop i t)
+  unfolding same
+  same-not e = rw (drop-cons s i 0 h, drop-cons t i 0 g, ne-eqb _ _ e)
+
+  pub same-on : getD s i 0 ≡ getD t i 0 → same (drop i s) (drop i t) ≡ same (drop (i + 1) s) (drop (i + 1) t)
+  unfolding same
+  same-on e = rw (drop-cons s i 0 h, drop-cons t i 0 g, eq-eqb _ _ e, add-one)
+
+pub same-end : (s t : List ℕ) (i : ℕ) → length s ≤ i → length s ≡ length t → true ≡ same (drop i s) (drop i t)
+unfolding same
+same-end s t i h g = let k : length t ≤ i = omega arith in rw (drop-of-length-le s h, drop-of-length-le t k)

@@ -1,0 +1,60 @@
+// Numbers in decimal.
+use crate::put::put_byte;
+ghost use mathlib.Core.Path.{_≡_};
+ghost use Prim.Native.Nat.{_+_, _<_};
+ghost use lib.ListN.{length};
+ghost use Rattle.text.specs.Decimal.{digit, decimal, withTab};
+ghost use Rattle.text.specs.Promises.{Room, Put};
+
+fn glyph(d: usize) -> u8
+    requires { ⌜ d < 10 ⌝ }
+    ensures { λ r. ⌜ r ≡ digit d ⌝ }
+{
+    b'0' + d as u8
+}
+
+// How many digits n has.
+fn places(n: usize) -> usize
+    ensures { λ r. ⌜ r ≡ length (decimal n) ⌝ }
+{
+    let mut k = 1;
+    let mut rest = n;
+    while rest >= 10 {
+        rest = rest / 10;
+        k = k + 1;
+    }
+    k
+}
+
+// The last digit first, from the place k behind at down.
+fn put_digits(out: &mut [u8], at: usize, n: usize, k: usize)
+    requires { ⌜ (k ≡ length (decimal n)) × (Room (now out) at (decimal n)) ⌝ }
+    ensures { λ _. ⌜ Put (now (out .entry)) at (decimal n) (now (out .exit)) (at + k) ⌝ }
+{
+    let mut i = k;
+    let mut rest = n;
+    while rest >= 10 {
+        i = i - 1;
+        out[at + i] = glyph(rest % 10);
+        rest = rest / 10;
+    }
+    out[at] = glyph(rest);
+}
+
+pub fn put_number(out: &mut [u8], at: usize, n: usize) -> usize
+    requires { ⌜ Room (now out) at (decimal n) ⌝ }
+    ensures { λ r. ⌜ Put (now (out .entry)) at (decimal n) (now (out .exit)) r ⌝ }
+{
+    let k = places(n);
+    put_digits(out, at, n, k);
+    at + k
+}
+
+// A tab and a number.
+pub fn put_field(out: &mut [u8], at: usize, n: usize) -> usize
+    requires { ⌜ Room (now out) at (withTab (decimal n)) ⌝ }
+    ensures { λ r. ⌜ Put (now (out .entry)) at (withTab (decimal n)) (now (out .exit)) r ⌝ }
+{
+    let a = put_byte(out, at, b'\t');
+    put_number(out, a, n)
+}
