@@ -9,10 +9,10 @@ use Rattle.text.specs.Bytes.{text}
 use Rattle.text.specs.Decimal.{decimal, withTab, tabbed}
 use Rattle.text.specs.Promises.{Room}
 use Rattle.waits.specs.Report.{Entry, entryBytes}
-use Rattle.detector.specs.Refusals.{reportRoom}
+use Rattle.detector.specs.Refusals.{bufferBytes}
 use Rattle.detector.specs.Promises.{reportsOf}
 use Rattle.answers.specs.Reports.{entryIn, entriesIn, reportIn, reportSize, reportsIn, reportsSize}
-use Rattle.answers.specs.Answers.{number, replyText, itemText, itemsText, cycleText, cyclesText, answerText, endText, itemRoom, answerRoom, endRoom}
+use Rattle.answers.specs.Answers.{number, replyText, itemText, itemsText, cycleText, cyclesText, answerText, endText, itemBytes, answerBytes, endBytes}
 use Rattle.text.proofs.Digits.{decimal-short, decimal-bound}
 use Rattle.answers.proofs.Items.{reply-parts, end-parts, cycle-parts, item-parts, report-at}
 use Rattle.detector.specs.declared.reply.Reply.{Reply}
@@ -39,7 +39,7 @@ cycle-at-length b p n e = cycle-length (reportIn (drop p b)) ∙ ap (λ (es : Li
 pub reply-bound : (n : ℕ) (r : Reply) → n < 2 ^ 64 → number r < 2 ^ 64 → length (replyText n r) ≤ 45
 reply-bound n r h g = omega (arith, reply-length n (number r) r refl, decimal-bound n h, decimal-bound (number r) g)
 
-pub end-bound : (n e s : ℕ) → n < 2 ^ 64 → e < 2 ^ 64 → s < 2 ^ 64 → length (endText n e s) ≤ endRoom
+pub end-bound : (n e s : ℕ) → n < 2 ^ 64 → e < 2 ^ 64 → s < 2 ^ 64 → length (endText n e s) ≤ endBytes
 end-bound n e s h g k = omega (arith, end-length n e s, decimal-bound n h, decimal-bound e g, decimal-bound s k)
 
 abbrev pub Bytes : List ℕ → Type 0
@@ -48,14 +48,14 @@ Bytes b = (i : ℕ) → getD b i 0 < 256
 bytes-drop : (b : List ℕ) (k : ℕ) → Bytes b → Bytes (drop k b)
 bytes-drop b k h i = rw getD-drop (h (k + i))
 
-item-bound : (b : List ℕ) → Bytes b → length (withTab (itemText (entryIn b))) ≤ itemRoom
+item-bound : (b : List ℕ) → Bytes b → length (withTab (itemText (entryIn b))) ≤ itemBytes
 item-bound b h = omega (arith, item-length b 0 (getD b 0 0) (getD b 1 0) refl refl, decimal-short 2 (getD b 0 0) (omega (arith, h 0)), decimal-short 2 (getD b 1 0) (omega (arith, h 1)))
 
-items-bound : (n : ℕ) (b : List ℕ) → Bytes b → length (itemsText (entriesIn n b)) ≤ itemRoom * n
+items-bound : (n : ℕ) (b : List ℕ) → Bytes b → length (itemsText (entriesIn n b)) ≤ itemBytes * n
 unfolding entriesIn tabbed
 items-bound zero b h = omega arith
 items-bound (suc n) b h =
-    let r : length (itemsText (entriesIn n (drop entryBytes b))) ≤ itemRoom * n = items-bound n (drop entryBytes b) (bytes-drop b entryBytes h) in
+    let r : length (itemsText (entriesIn n (drop entryBytes b))) ≤ itemBytes * n = items-bound n (drop entryBytes b) (bytes-drop b entryBytes h) in
     omega (arith, item-bound b h, length-append (withTab (itemText (entryIn b))) (itemsText (entriesIn n (drop entryBytes b))))
 
 -- four bytes of text for a byte of the buffer, and two more for a report
@@ -67,12 +67,12 @@ cycles-bound (suc r) b h =
     omega (arith, cycle-length (reportIn b), items-bound (getD b 0 0) (drop 1 b) (bytes-drop b 1 h), length-append (cycleText (reportIn b)) (cyclesText (reportsIn r (drop (reportSize b) b))))
 
 -- 32 reports in all the room that there is for them: the longest answer to one line
-pub answer-bound : (n : ℕ) (r : Reply) (b : List ℕ) → n < 2 ^ 64 → number r < 2 ^ 64 → Bytes b → reportsOf r ≤ 32 → reportsSize (reportsOf r) b ≤ reportRoom → length (answerText n r b) ≤ answerRoom
+pub answer-bound : (n : ℕ) (r : Reply) (b : List ℕ) → n < 2 ^ 64 → number r < 2 ^ 64 → Bytes b → reportsOf r ≤ 32 → reportsSize (reportsOf r) b ≤ bufferBytes → length (answerText n r b) ≤ answerBytes
 unfolding answerText
 answer-bound n r b h g k s t = omega (arith, reply-bound n r h g, cycles-bound (reportsOf r) b k, length-append (replyText n r) (cyclesText (reportsIn (reportsOf r) b)))
 
-pub answer-room : (d : List ℕ) (at n : ℕ) (r : Reply) (b : List ℕ) → n < 2 ^ 64 → number r < 2 ^ 64 → Bytes b → reportsOf r ≤ 32 → reportsSize (reportsOf r) b ≤ reportRoom → at + answerRoom ≤ length d → Room d at (answerText n r b)
+pub answer-room : (d : List ℕ) (at n : ℕ) (r : Reply) (b : List ℕ) → n < 2 ^ 64 → number r < 2 ^ 64 → Bytes b → reportsOf r ≤ 32 → reportsSize (reportsOf r) b ≤ bufferBytes → at + answerBytes ≤ length d → Room d at (answerText n r b)
 answer-room d at n r b h g k s t w = record { fits = omega (arith, answer-bound n r b h g k s t) }
 
-pub end-room : (d : List ℕ) (at n e s : ℕ) → n < 2 ^ 64 → e < 2 ^ 64 → s < 2 ^ 64 → at + endRoom ≤ length d → Room d at (endText n e s)
+pub end-room : (d : List ℕ) (at n e s : ℕ) → n < 2 ^ 64 → e < 2 ^ 64 → s < 2 ^ 64 → at + endBytes ≤ length d → Room d at (endText n e s)
 end-room d at n e s h g k w = record { fits = omega (arith, end-bound n e s h g k) }

@@ -7,7 +7,7 @@ use native.Mathlib.Numerals.{one-add}
 use lib.ListN.{length, drop, length-append}
 use lib.Seq.{drop-at}
 use Rattle.waits.specs.Report.{Entry, entryBytes, entriesText}
-use Rattle.waits.proofs.Telling.{length-entries}
+use Rattle.waits.proofs.Judging.{length-entries}
 use Rattle.answers.specs.Reports.{entriesIn, reportsIn, reportsSize, reportsBytes}
 
 entries-read : (es : List Entry) (rest : List ℕ) → entriesIn (length es) (entriesText es ++ rest) ≡ es

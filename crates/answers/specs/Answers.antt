@@ -46,11 +46,11 @@ endText lines edges stuck = line (text "end" ∷ decimal lines ∷ decimal edges
 
 -- room for an item and its tab, whatever its two bytes are; for the longest answer to one line, an answer of 45 bytes and 32 reports of 32 entries
 -- (8429); and for the last line
-abbrev pub itemRoom : ℕ
-itemRoom = 8
+abbrev pub itemBytes : ℕ
+itemBytes = 8
 
-abbrev pub answerRoom : ℕ
-answerRoom = 45 + 32 * (6 + 32 * itemRoom)
+abbrev pub answerBytes : ℕ
+answerBytes = 45 + 32 * (6 + 32 * itemBytes)
 
-abbrev pub endRoom : ℕ
-endRoom = 67
+abbrev pub endBytes : ℕ
+endBytes = 67

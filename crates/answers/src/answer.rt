@@ -1,22 +1,22 @@
 // What is printed for a line of the script, and the last line.
 use crate::cycle::put_cycles;
+use detector::Reply;
+use text::put_byte;
+use text::put_bytes;
 use text::put_field;
 use text::put_number;
 use text::wide;
-use text::put_byte;
-use text::put_bytes;
-use detector::Reply;
 ghost use Rattle.text.specs.Promises.{Room, Put};
 ghost use Rattle.detector.specs.Promises.{reportsOf};
 ghost use Rattle.answers.specs.Answers.{replyText, answerText, endText};
 ghost use Rattle.answers.specs.Promises.{Held};
 
 // Room for an item and its tab; for the longest answer to one line, with 32 reports of 32 entries; and for the last line.
-const ITEM_ROOM: usize = 8;
+const ITEM_BYTES: usize = 8;
 
-pub const ANSWER_ROOM: usize = 45 + 32 * (6 + 32 * ITEM_ROOM);
+pub const ANSWER_BYTES: usize = 45 + 32 * (6 + 32 * ITEM_BYTES);
 
-pub const END_ROOM: usize = 67;
+pub const END_BYTES: usize = 67;
 
 // Line number, `ok` and the number of reports, or `no` and the refusal.
 fn put_reply(out: &mut [u8], at: usize, line: usize, reply: Reply) -> usize

@@ -1,9 +1,9 @@
 // A `cycle` line for each report in the report buffer.
+use text::put_byte;
+use text::put_bytes;
 use text::put_field;
 use text::put_number;
 use text::wide;
-use text::put_byte;
-use text::put_bytes;
 use waits::Waits;
 ghost use mathlib.Core.Path.{_≡_};
 ghost use Prim.Native.Nat.{_+_, _*_, _≤_};
@@ -37,7 +37,7 @@ fn put_items(out: &mut [u8], at: usize, buf: &[u8], from: usize, n: usize) -> us
     let mut p = from;
     while left > 0 {
         to = put_item(out, to, buf, p);
-        p = p + Waits::ENTRY;
+        p = p + Waits::ENTRY_BYTES;
         left = left - 1;
     }
     to
@@ -66,7 +66,7 @@ pub(crate) fn put_cycles(out: &mut [u8], at: usize, buf: &[u8], reports: usize) 
     while left > 0 {
         let n = wide(buf[p]);
         to = put_cycle(out, to, buf, p, n);
-        p = p + 1 + Waits::ENTRY * n;
+        p = p + 1 + Waits::ENTRY_BYTES * n;
         left = left - 1;
     }
     to

@@ -2,7 +2,7 @@
 mod answer;
 mod cycle;
 
-pub use answer::ANSWER_ROOM;
-pub use answer::END_ROOM;
+pub use answer::ANSWER_BYTES;
+pub use answer::END_BYTES;
 pub use answer::put_answer;
 pub use answer::put_end;

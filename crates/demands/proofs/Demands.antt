@@ -9,18 +9,18 @@ use borrow.Author.Tests.{ne-eqb}
 use Rattle.waits.specs.Report.{written}
 use Rattle.waits.specs.Promises.{laid}
 use Rattle.waits.specs.declared.outcome.Outcome.{Outcome}
-use Rattle.waits.proofs.Telling.{laid-none}
-use Rattle.detector.specs.Tables.{Tables, Answer, empty}
-use Rattle.detector.specs.Refusals.{refusal, reportRoom}
+use Rattle.waits.proofs.Judging.{laid-none}
+use Rattle.detector.specs.Tables.{Tables, Effect, empty}
+use Rattle.detector.specs.Refusals.{refusal, bufferBytes}
 use Rattle.detector.specs.State.{pairsOf, tables, Valid}
 use Rattle.detector.specs.Promises.{refusalOf, refusedBy, reportsOf, Steps}
 use Rattle.detector.specs.declared.event.Event.{Event}
 use Rattle.detector.specs.declared.event.Event.the-variants.{MutexAttempt, RwWriteAttempt, RwReadAttempt}
 use Rattle.detector.specs.declared.state.Detector.{Detector}
-use Rattle.detector.specs.declared.reply.Answered.{Answered}
+use Rattle.detector.specs.declared.reply.Stepped.{Stepped}
 use Rattle.detector.specs.declared.reply.Reply.{Reply}
 use Rattle.detector.specs.declared.reply.Reply.the-variants.{Refused}
-use Rattle.detector.specs.Effects.{answer, replied}
+use Rattle.detector.specs.Effects.{effect, replied}
 use Rattle.demands.specs.Reached.{reach, Reached}
 use Rattle.demands.specs.Driven.{Call, Back, Driven, none, next, Starts}
 use Rattle.detector.specs.Typed.{Typed}
@@ -28,7 +28,7 @@ use Rattle.demands.specs.Demand1.{AllAnswered, AllAnsweredFromNew, EachA
 use Rattle.demands.specs.Demand2.{onward, backs, reachBy, NoTwo, FedAsRuled, Coincide, StepsCoincide}
 use Rattle.demands.specs.Demand3.{ReportsTrue, Converse, MutexConverse, RwConverse, Attempted, Called, CalledHalf}
 use Rattle.demands.proofs.Events.{accepted-full}
-use Rattle.detector.proofs.Serving.{served, unserved}
+use Rattle.detector.proofs.Serving.{effect-served, effect-refused}
 use Rattle.demands.proofs.Invariants.{first-half}
 use Rattle.demands.proofs.Exact.{second-half}
 use Rattle.demands.proofs.StepAnswered.{step-answered, starts-typed, served-held}
@@ -60,30 +60,30 @@ refused-by-number d ev r b e s = record { number = number (refusalOf d (length b
   where
     number : (n : ℕ) → refusalOf d (length b) ev ≡ n → refusedBy (r .reply) ≡ refusalOf d (length b) ev
     number zero q = ap refusedBy (s .served q .0) ∙ sym q
-    number (suc n) q = ap (λ (a : Answered). refusedBy (a .reply)) (s .refused (omega arith) .0)
+    number (suc n) q = ap (λ (a : Stepped). refusedBy (a .reply)) (s .refused (omega arith) .0)
 
     same : 0 < refusalOf d (length b) ev → (r .detector ≡ d) × (e ≡ b)
-    same h = let p = s .refused h in (ap (λ (a : Answered). a .detector) (p .0), p .1)
+    same h = let p = s .refused h in (ap (λ (a : Stepped). a .detector) (p .0), p .1)
 
 -- ---- the rules' run
 
-reach-snoc : (es : List Event) (e : Event) (x : Tables) → reach x (es ++ (e ∷ [])) ≡ answer (reach x es) reportRoom e .tables
+reach-snoc : (es : List Event) (e : Event) (x : Tables) → reach x (es ++ (e ∷ [])) ≡ effect (reach x es) bufferBytes e .tables
 unfolding reach
 reach-snoc [] e x = refl
-reach-snoc (f ∷ es) e x = reach-snoc es e (answer x reportRoom f .tables)
+reach-snoc (f ∷ es) e x = reach-snoc es e (effect x bufferBytes f .tables)
 
 -- one event more, with any buffer
-pub reached-next : (x : Tables) (n : ℕ) (e : Event) → Reached x → Reached (answer x n e .tables)
+pub reached-next : (x : Tables) (n : ℕ) (e : Event) → Reached x → Reached (effect x n e .tables)
 reached-next x n e r = go (ℕ-discrete (refusal x n e) 0)
   where
-    go : Dec (refusal x n e ≡ 0) → Reached (answer x n e .tables)
+    go : Dec (refusal x n e ≡ 0) → Reached (effect x n e .tables)
     go (yes h) =
         record {
           events = r .events ++ (e ∷ []);
-          reaches = reach-snoc (r .events) e empty ∙ ap (λ (y : Tables). answer y reportRoom e .tables) (r .reaches)
-              ∙ ap (λ (a : Answer). a .tables) (served x reportRoom e (accepted-full x n e h) ∙ sym (served x n e h));
+          reaches = reach-snoc (r .events) e empty ∙ ap (λ (y : Tables). effect y bufferBytes e .tables) (r .reaches)
+              ∙ ap (λ (a : Effect). a .tables) (effect-served x bufferBytes e (accepted-full x n e h) ∙ sym (effect-served x n e h));
         }
-    go (no h) = record { events = r .events; reaches = r .reaches ∙ ap (λ (a : Answer). a .tables) (sym (unserved x n e h)) }
+    go (no h) = record { events = r .events; reaches = r .reaches ∙ ap (λ (a : Effect). a .tables) (sym (effect-refused x n e h)) }
 
 reached-by : (ks : List Call) (x : Tables) → Reached x → Reached (reachBy x ks)
 unfolding reachBy
@@ -110,23 +110,23 @@ no-two (k ∷ ks) x = (
 -- ---- DEMANDS 2 AND 3
 
 -- what comes back is what the rules say
-record Follows (d : Detector) (ev : Event) (r : Answered) (b e : List ℕ) : Type 0 where
+record Follows (d : Detector) (ev : Event) (r : Stepped) (b e : List ℕ) : Type 0 where
   reply : r .reply ≡ replied (tables d) (length b) ev
-  bytes : e ≡ laid b 0 (written (answer (tables d) (length b) ev .reports))
-  after : tables (r .detector) ≡ answer (tables d) (length b) ev .tables
+  bytes : e ≡ laid b 0 (written (effect (tables d) (length b) ev .reports))
+  after : tables (r .detector) ≡ effect (tables d) (length b) ev .tables
   valid : Valid (r .detector)
 
 same-back : {p q : Reply} {b c : List ℕ} → p ≡ q → b ≡ c → _≡_ {A = Back} (record { reply = p; buffer = b }) (record { reply = q; buffer = c })
 same-back p q = λ i. record { reply = p i; buffer = q i }
 
-counted : (x : Tables) (n : ℕ) (e : Event) → reportsOf (replied x n e) ≡ length (answer x n e .reports)
+counted : (x : Tables) (n : ℕ) (e : Event) → reportsOf (replied x n e) ≡ length (effect x n e .reports)
 counted x n e = go (ℕ-discrete (refusal x n e) 0)
   where
-    go : Dec (refusal x n e ≡ 0) → reportsOf (replied x n e) ≡ length (answer x n e .reports)
+    go : Dec (refusal x n e ≡ 0) → reportsOf (replied x n e) ≡ length (effect x n e .reports)
     go (yes h) = rw h
-    go (no h) = rw (ne-eqb (refusal x n e) 0 h, unserved x n e h)
+    go (no h) = rw (ne-eqb (refusal x n e) 0 h, effect-refused x n e h)
 
-follows : (d : Detector) (ev : Event) (r : Answered) (b e : List ℕ) → Valid d → Steps d ev r b e → Follows d ev r b e
+follows : (d : Detector) (ev : Event) (r : Stepped) (b e : List ℕ) → Valid d → Steps d ev r b e → Follows d ev r b e
 unfolding refusalOf written
 follows d ev r b e v s = go (ℕ-discrete (refusal (tables d) (length b) ev) 0)
   where
@@ -137,18 +137,18 @@ follows d ev r b e v s = go (ℕ-discrete (refusal (tables d) (length b) ev) 0)
     go (yes h) =
         let a = s .served (ruled ∙ h) in
         record {
-          reply = rw (h, served (tables d) (length b) ev h) (a .0);
-          bytes = rw (served (tables d) (length b) ev h) (a .1 .bytes);
-          after = rw (served (tables d) (length b) ev h) (a .1 .state);
+          reply = rw (h, effect-served (tables d) (length b) ev h) (a .0);
+          bytes = rw (effect-served (tables d) (length b) ev h) (a .1 .bytes);
+          after = rw (effect-served (tables d) (length b) ev h) (a .1 .state);
           valid = a .1 .valid;
         }
     go (no h) =
         let p = s .refused (omega (arith, ruled)) in
         record {
-          reply = ap (λ (a : Answered). a .reply) (p .0) ∙ rw (ne-eqb (refusal (tables d) (length b) ev) 0 h) (ap Refused ruled);
-          bytes = rw (unserved (tables d) (length b) ev h) (p .1 ∙ sym (laid-none b 0));
-          after = rw (unserved (tables d) (length b) ev h) (ap (λ (a : Answered). tables (a .detector)) (p .0));
-          valid = subst Valid (sym (ap (λ (a : Answered). a .detector) (p .0))) v;
+          reply = ap (λ (a : Stepped). a .reply) (p .0) ∙ rw (ne-eqb (refusal (tables d) (length b) ev) 0 h) (ap Refused ruled);
+          bytes = rw (effect-refused (tables d) (length b) ev h) (p .1 ∙ sym (laid-none b 0));
+          after = rw (effect-refused (tables d) (length b) ev h) (ap (λ (a : Stepped). tables (a .detector)) (p .0));
+          valid = subst Valid (sym (ap (λ (a : Stepped). a .detector) (p .0))) v;
         }
 
 -- any calls from a valid state
@@ -188,9 +188,9 @@ coincide d e d′ e′ ks bs bs′ s f s′ f′ =
     (n .answers ∙ sym (m .answers), n .state ∙ sym (m .state))
 
 -- as many queues come out of a step as the types hold
-queues-out : (d : Detector) (ev : Event) (r : Answered) (b e : List ℕ) → Typed d → Steps d ev r b e → refusalOf d (length b) ev ≡ 0 → length (r .detector .rest .«cv_waiters») ≡ 16
+queues-out : (d : Detector) (ev : Event) (r : Stepped) (b e : List ℕ) → Typed d → Steps d ev r b e → refusalOf d (length b) ev ≡ 0 → length (r .detector .condvars .«cv_waiters») ≡ 16
 queues-out d ev r b e y s z =
-    sym (length-map (r .detector .rest .«cv_waiters») pairsOf)
+    sym (length-map (r .detector .condvars .«cv_waiters») pairsOf)
     ∙ ap (λ (x : Tables). length (x .«cv_waiters»)) (s .served z .1 .state)
     ∙ served-held d ev (length b) y z .condvars
 
@@ -218,7 +218,7 @@ pub reports-true : ReportsTrue
 reports-true d₀ d ks bs s f ev r b e t =
     let q = follows d ev r b e (as-ruled d₀ d ks bs s f .valid) t in
     record {
-      reports = answer (tables d) (length b) ev .reports;
+      reports = effect (tables d) (length b) ev .reports;
       count = ap reportsOf (q .reply) ∙ counted (tables d) (length b) ev;
       bytes = q .bytes;
       each = rw (q .after) (first-half (tables d) (length b) ev (fed-reached d₀ d ks bs s f));

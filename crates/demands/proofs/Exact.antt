@@ -28,10 +28,10 @@ use Rattle.graph.proofs.Register.{register-ring, register-none}
 use Rattle.waits.specs.Tables.{noSlot, intentOf, holdsOf, ownerOf, writerOf, withGraph, own, write}
 use Rattle.waits.specs.Owners.{countOf, reads, readers, thenWriter, ownersFor, owners, blocking, waitsFor}
 use Rattle.waits.specs.Waiting.{unwaited, clear, setIntent, register}
-use Rattle.waits.specs.Filter.{nothing, allHold, unread, commonLocks, passes}
-use Rattle.waits.specs.Report.{Said, quiet, saying}
+use Rattle.waits.specs.Filter.{nothing, allHold, nobodyReads, commonLocks, passes}
+use Rattle.waits.specs.Report.{Judging, quiet, reporting}
 use Rattle.waits.specs.Validate.{around, valid, names, validate}
-use Rattle.waits.specs.Attempt.{judgedOf, sievedOf, block, blockMutex, mutexOn, readOn, writeOn, free, blockWrite}
+use Rattle.waits.specs.Attempt.{judgeFound, sieveFound, block, blockMutex, mutexOn, readOn, writeOn, free, blockWrite}
 use Rattle.waits.specs.declared.tables.Waits.{Waits}
 use Rattle.waits.specs.declared.intent.Slot.{Slot}
 use Rattle.waits.specs.declared.intent.WaitIntent.{WaitIntent}
@@ -53,7 +53,7 @@ use Rattle.demands.specs.Invariants.{Fine, Kept}
 use Rattle.demands.specs.Demand3.{Exact, Alone, Apt, Shared, Spared, SecondHalf}
 use Rattle.demands.proofs.Fine.{unwaited-graph, fine-own, fine-write, fine-set}
 use Rattle.detector.proofs.Numbers.{accepted}
-use Rattle.detector.proofs.Serving.{served}
+use Rattle.detector.proofs.Serving.{effect-served}
 use Rattle.demands.proofs.Invariants.{reached-kept}
 
 -- a truly waits for b, in waits w with counts c
@@ -182,21 +182,21 @@ valid-of : (c : List ℕ) (w : Waits) (p : List ℕ) → Ring (True c w) p → v
 unfolding valid
 valid-of c w (a ∷ r) i = around-of c w a a r i
 
-validate-of : (c : List ℕ) (w : Waits) (p : List ℕ) → Ring (True c w) p → validate c w p ≡ saying w p
+validate-of : (c : List ℕ) (w : Waits) (p : List ℕ) → Ring (True c w) p → validate c w p ≡ reporting w p
 unfolding validate
 validate-of c w p i = rw (valid-of c w p i)
 
 -- ---- what is reported and what is true
 
 -- reported exactly where the true waits hold a cycle
-abbrev Tells : List ℕ → Said → Type 0
-Tells c a = (0 < length (a .reports)) ↔ Cycle (True c (a .waits))
+abbrev Decides : List ℕ → Judging → Type 0
+Decides c a = (0 < length (a .reports)) ↔ Cycle (True c (a .waits))
 
-tells-found : (c : List ℕ) (w : Waits) (p : List ℕ) → Ring (True c w) p → Tells c (validate c w p)
-tells-found c w p i = subst (Tells c) (sym (validate-of c w p i)) (λ r. ring-cycle (True c w) p i, λ z. lit< tt)
+decides-found : (c : List ℕ) (w : Waits) (p : List ℕ) → Ring (True c w) p → Decides c (validate c w p)
+decides-found c w p i = subst (Decides c) (sym (validate-of c w p i)) (λ r. ring-cycle (True c w) p i, λ z. lit< tt)
 
-tells-none : (c : List ℕ) (w : Waits) → Acyclic (True c w) → Tells c (quiet w)
-tells-none c w h = (λ r. absurd (omega arith), λ z. absurd (no-cycle (True c w) h z))
+decides-none : (c : List ℕ) (w : Waits) → Acyclic (True c w) → Decides c (quiet w)
+decides-none c w h = (λ r. absurd (omega arith), λ z. absurd (no-cycle (True c w) h z))
 
 -- ---- the filter
 
@@ -218,71 +218,71 @@ something : (l : List ℕ) → nothing l ≡ false → (y : ℕ) × In y l
 something [] e = absurd (true≢false e)
 something (z ∷ l) e = (z, inl refl)
 
-unread-zero : (c : List ℕ) (l : ℕ) → unread c l ≡ true → (t : ℕ) → t < 32 → countOf c l t ≡ 0
+nobody-zero : (c : List ℕ) (l : ℕ) → nobodyReads c l ≡ true → (t : ℕ) → t < 32 → countOf c l t ≡ 0
 unfolding readers
-unread-zero c l e t h = go (eqb (countOf c l t) 0) refl
+nobody-zero c l e t h = go (eqb (countOf c l t) 0) refl
   where
     go : (b : Bool) → eqb (countOf c l t) 0 ≡ b → countOf c l t ≡ 0
     go true q = eqb-true _ _ q
     go false q = absurd (nothing-none (those (reads c l) 32) e t (in-those (reads c l) 32 t h (ap not q)))
 
-zero-unread : (c : List ℕ) (l : ℕ) → ((t : ℕ) → t < 32 → countOf c l t ≡ 0) → unread c l ≡ true
+zero-nobody : (c : List ℕ) (l : ℕ) → ((t : ℕ) → t < 32 → countOf c l t ≡ 0) → nobodyReads c l ≡ true
 unfolding readers
-zero-unread c l h =
+zero-nobody c l h =
     in-nothing (those (reads c l) 32) (λ t m. let q = those-in (reads c l) 32 t m in false≢true (sym (ap not (eq-eqb (countOf c l t) 0 (h t (q .0)))) ∙ q .1))
 
 shared-of : (c : List ℕ) (w : Waits) (p : List ℕ) → passes c w p ≡ false → Shared c w p
 unfolding commonLocks
 shared-of c w p e =
-    let s = something (those (λ l. cond (allHold w l p) (unread c l) false) 64) e in
-    let q = those-in (λ l. cond (allHold w l p) (unread c l) false) 64 (s .0) (s .1) in
-    let b = both (allHold w (s .0) p) (unread c (s .0)) (q .1) in
-    record { lock = s .0; inside = q .0; held = held-all w (s .0) p (b .0); unread = unread-zero c (s .0) (b .1) }
+    let s = something (those (λ l. cond (allHold w l p) (nobodyReads c l) false) 64) e in
+    let q = those-in (λ l. cond (allHold w l p) (nobodyReads c l) false) 64 (s .0) (s .1) in
+    let b = both (allHold w (s .0) p) (nobodyReads c (s .0)) (q .1) in
+    record { lock = s .0; inside = q .0; held = held-all w (s .0) p (b .0); nobodyReads = nobody-zero c (s .0) (b .1) }
 
 of-shared : (c : List ℕ) (w : Waits) (p : List ℕ) → passes c w p ≡ true → Shared c w p → ⊥
 unfolding commonLocks
 of-shared c w p e k =
-    nothing-none (those (λ l. cond (allHold w l p) (unread c l) false) 64) e (k .lock)
-    (in-those (λ l. cond (allHold w l p) (unread c l) false) 64 (k .lock) (k .inside)
-    (ap (λ (b : Bool). cond b (unread c (k .lock)) false) (all-held w (k .lock) p (k .held)) ∙ zero-unread c (k .lock) (k .unread)))
+    nothing-none (those (λ l. cond (allHold w l p) (nobodyReads c l) false) 64) e (k .lock)
+    (in-those (λ l. cond (allHold w l p) (nobodyReads c l) false) 64 (k .lock) (k .inside)
+    (ap (λ (b : Bool). cond b (nobodyReads c (k .lock)) false) (all-held w (k .lock) p (k .held)) ∙ zero-nobody c (k .lock) (k .nobodyReads)))
 
 -- reported exactly where they hold a cycle and the path found is not of threads with a lock in common
-abbrev TellsMutex : List ℕ → Option (List ℕ) → Said → Type 0
-TellsMutex c o a = (0 < length (a .reports)) ↔ (Cycle (True c (a .waits)) × ((p : List ℕ) → o ≡ some p → Shared c (a .waits) p → ⊥))
+abbrev DecidesMutex : List ℕ → Option (List ℕ) → Judging → Type 0
+DecidesMutex c o a = (0 < length (a .reports)) ↔ (Cycle (True c (a .waits)) × ((p : List ℕ) → o ≡ some p → Shared c (a .waits) p → ⊥))
 
 module _ (c : List ℕ) (v : Waits) (t : ℕ) (h : t < 32) (f : Fine v) (x : ExactBut c v t) where
-  tells-block : (i : WaitIntent) → i .«lock_id» < 64 → Tells c (block c v t i)
+  decides-block : (i : WaitIntent) → i .«lock_id» < 64 → Decides c (block c v t i)
   unfolding block
-  tells-block i k = go (register c v t i .found) refl
+  decides-block i k = go (register c v t i .found) refl
     where
-      go : (o : Option (List ℕ)) → register c v t i .found ≡ o → Tells c (judgedOf c (register c v t i .waits) o)
-      go none e = tells-none c (register c v t i .waits) (none-acyclic c v t i h k f x e)
-      go (some p) e = tells-found c (register c v t i .waits) p (found-ring c v t i h k f x p e)
+      go : (o : Option (List ℕ)) → register c v t i .found ≡ o → Decides c (judgeFound c (register c v t i .waits) o)
+      go none e = decides-none c (register c v t i .waits) (none-acyclic c v t i h k f x e)
+      go (some p) e = decides-found c (register c v t i .waits) p (found-ring c v t i h k f x p e)
 
-  tells-mutex : (l : ℕ) → l < 64 → TellsMutex c (register c v t (mutexOn l) .found) (blockMutex c v t l)
+  decides-mutex : (l : ℕ) → l < 64 → DecidesMutex c (register c v t (mutexOn l) .found) (blockMutex c v t l)
   unfolding blockMutex
-  tells-mutex l k = go (register c v t (mutexOn l) .found) refl
+  decides-mutex l k = go (register c v t (mutexOn l) .found) refl
     where
       w : Waits
       w = register c v t (mutexOn l) .waits
 
-      pass : (p : List ℕ) (b : Bool) → passes c w p ≡ b → Ring (True c w) p → TellsMutex c (some p) (cond b (validate c w p) (quiet w))
-      pass p true e i = subst (TellsMutex c (some p)) (sym (validate-of c w p i))
+      pass : (p : List ℕ) (b : Bool) → passes c w p ≡ b → Ring (True c w) p → DecidesMutex c (some p) (cond b (validate c w p) (quiet w))
+      pass p true e i = subst (DecidesMutex c (some p)) (sym (validate-of c w p i))
           (λ r. (ring-cycle (True c w) p i, λ q z y. of-shared c w p e (subst (Shared c w) (sym (Option·some-injective p q z)) y)), λ z. lit< tt)
       pass p false e i = (λ r. absurd (omega arith), λ z. absurd (z .1 p refl (shared-of c w p e)))
 
-      go : (o : Option (List ℕ)) → register c v t (mutexOn l) .found ≡ o → TellsMutex c o (sievedOf c w o)
+      go : (o : Option (List ℕ)) → register c v t (mutexOn l) .found ≡ o → DecidesMutex c o (sieveFound c w o)
       go none e = (λ r. absurd (omega arith), λ z. absurd (no-cycle (True c w) (none-acyclic c v t (mutexOn l) h k f x e) (z .0)))
       go (some p) e = pass p (passes c w p) refl (found-ring c v t (mutexOn l) h k f x p e)
 
   -- a writer that finds nobody waits for nobody
-  tells-write : (l : ℕ) → l < 64 → (free c v l ≡ true → Acyclic (True c v)) → Tells c (blockWrite c v t l)
+  decides-write : (l : ℕ) → l < 64 → (free c v l ≡ true → Acyclic (True c v)) → Decides c (blockWrite c v t l)
   unfolding blockWrite
-  tells-write l k calm = go (free c v l) refl
+  decides-write l k calm = go (free c v l) refl
     where
-      go : (b : Bool) → free c v l ≡ b → Tells c (cond b (quiet v) (block c v t (writeOn l)))
-      go true e = tells-none c v (calm e)
-      go false e = tells-block (writeOn l) k
+      go : (b : Bool) → free c v l ≡ b → Decides c (cond b (quiet v) (block c v t (writeOn l)))
+      go true e = decides-none c v (calm e)
+      go false e = decides-block (writeOn l) k
 
 -- ---- exact but for t, also with the hint on record
 
@@ -353,39 +353,39 @@ module _ (x : Tables) (k : Kept x) (exact : Exact x) (t l : ℕ) where
 
 module _ (x : Tables) (room t l : ℕ) (k : Kept x) (exact : Exact x) where
   -- the rule's answer of a mutex attempt in waits v
-  mutex-said : (v : Waits) → t < 32 → l < 64 → Fine v → ExactBut (x .«rwlock_readers») v t
+  mutex-decided : (v : Waits) → t < 32 → l < 64 → Fine v → ExactBut (x .«rwlock_readers») v t
       → (0 < length (acquireSlow x v t l .reports))
       ↔ (Cycle (Truly (acquireSlow x v t l .tables)) × ((p : List ℕ) × (register (x .«rwlock_readers») v t (mutexOn l) .found ≡ some p) × Shared (x .«rwlock_readers») (acquireSlow x v t l .tables .waits) p → ⊥))
   unfolding acquireSlow
-  mutex-said v h i f e =
-      let m = tells-mutex (x .«rwlock_readers») v t h f e l i in
+  mutex-decided v h i f e =
+      let m = decides-mutex (x .«rwlock_readers») v t h f e l i in
       (λ r. (m .0 r .0, λ z. m .0 r .1 (z .0) (z .1) (z .2)), λ z. m .1 (z .0, λ p q y. z .1 (p, q, y)))
 
   half-mutex : (o : Outcome) → Inside (numbersOf (MutexAttempt t l o)) room → Apt x (ownerOf (x .waits) l) t l o
       → (0 < length (apply (MutexAttempt t l o) x .reports)) ↔ (Cycle (Truly (apply (MutexAttempt t l o) x .tables)) × (Spared x t l o (apply (MutexAttempt t l o) x .tables) → ⊥))
   unfolding acquireSlow
   half-mutex Took n a = absurd a
-  half-mutex Blocked n a = mutex-said (x .waits) (n .thread) (n .lock) (k .waits) (exact-plain x k exact t l)
-  half-mutex (Hinted o) n a = mutex-said (own (x .waits) l o) (n .thread) (n .lock) (fine-own (x .waits) l o (omega (arith, n .hint)) (k .waits)) (exact-own x k exact t l o a)
+  half-mutex Blocked n a = mutex-decided (x .waits) (n .thread) (n .lock) (k .waits) (exact-plain x k exact t l)
+  half-mutex (Hinted o) n a = mutex-decided (own (x .waits) l o) (n .thread) (n .lock) (fine-own (x .waits) l o (omega (arith, n .hint)) (k .waits)) (exact-own x k exact t l o a)
 
   half-read : (o : Outcome) → Inside (numbersOf (RwReadAttempt t l o)) room → Apt x (writerOf (x .waits) l) t l o
       → (0 < length (apply (RwReadAttempt t l o) x .reports)) ↔ Cycle (Truly (apply (RwReadAttempt t l o) x .tables))
   unfolding acquireRead
   half-read Took n a = absurd a
-  half-read Blocked n a = tells-block (x .«rwlock_readers») (x .waits) t (n .thread) (k .waits) (exact-plain x k exact t l) (readOn l) (n .lock)
+  half-read Blocked n a = decides-block (x .«rwlock_readers») (x .waits) t (n .thread) (k .waits) (exact-plain x k exact t l) (readOn l) (n .lock)
   half-read (Hinted o) n a =
-      tells-block (x .«rwlock_readers») (write (x .waits) l o) t (n .thread) (fine-write (x .waits) l o (omega (arith, n .hint)) (k .waits)) (exact-write x k exact t l o a) (readOn l) (n .lock)
+      decides-block (x .«rwlock_readers») (write (x .waits) l o) t (n .thread) (fine-write (x .waits) l o (omega (arith, n .hint)) (k .waits)) (exact-write x k exact t l o a) (readOn l) (n .lock)
 
   half-write : (o : Outcome) → Inside (numbersOf (RwWriteAttempt t l o)) room → Apt x (writerOf (x .waits) l) t l o
       → (0 < length (apply (RwWriteAttempt t l o) x .reports)) ↔ Cycle (Truly (apply (RwWriteAttempt t l o) x .tables))
   unfolding acquireWrite
   half-write Took n a = absurd a
   half-write Blocked n a =
-      tells-write (x .«rwlock_readers») (x .waits) t (n .thread) (k .waits) (exact-plain x k exact t l) l (n .lock)
+      decides-write (x .«rwlock_readers») (x .waits) t (n .thread) (k .waits) (exact-plain x k exact t l) l (n .lock)
       (λ e. acyclic-within (Truly x) (Edge (x .waits .«wait_for_graph» .edges)) (λ a b z. exact-all x k exact a b .1 z) (k .waits .graph .acyclic))
   half-write (Hinted o) n a =
-      tells-write (x .«rwlock_readers») (write (x .waits) l o) t (n .thread) (fine-write (x .waits) l o (omega (arith, n .hint)) (k .waits)) (exact-write x k exact t l o a) l (n .lock)
-      (λ e. absurd (taken (unread (x .«rwlock_readers») l) e))
+      decides-write (x .«rwlock_readers») (write (x .waits) l o) t (n .thread) (fine-write (x .waits) l o (omega (arith, n .hint)) (k .waits)) (exact-write x k exact t l o a) l (n .lock)
+      (λ e. absurd (taken (nobodyReads (x .«rwlock_readers») l) e))
     where
       taken : (b : Bool) → cond b (eqb (writerOf (write (x .waits) l o) l) 32) false ≡ true → ⊥
       taken true e =
@@ -396,7 +396,7 @@ module _ (x : Tables) (room t l : ℕ) (k : Kept x) (exact : Exact x) where
 pub second-half : SecondHalf
 second-half =
     record {
-      mutex = λ x room t l o r exact h a. rw (served x room (MutexAttempt t l o) h) (half-mutex x room t l (reached-kept x r) exact o (accepted x room (MutexAttempt t l o) h .inside) a);
-      read = λ x room t l o r exact h a. rw (served x room (RwReadAttempt t l o) h) (half-read x room t l (reached-kept x r) exact o (accepted x room (RwReadAttempt t l o) h .inside) a);
-      write = λ x room t l o r exact h a. rw (served x room (RwWriteAttempt t l o) h) (half-write x room t l (reached-kept x r) exact o (accepted x room (RwWriteAttempt t l o) h .inside) a);
+      mutex = λ x room t l o r exact h a. rw (effect-served x room (MutexAttempt t l o) h) (half-mutex x room t l (reached-kept x r) exact o (accepted x room (MutexAttempt t l o) h .inside) a);
+      read = λ x room t l o r exact h a. rw (effect-served x room (RwReadAttempt t l o) h) (half-read x room t l (reached-kept x r) exact o (accepted x room (RwReadAttempt t l o) h .inside) a);
+      write = λ x room t l o r exact h a. rw (effect-served x room (RwWriteAttempt t l o) h) (half-write x room t l (reached-kept x r) exact o (accepted x room (RwWriteAttempt t l o) h .inside) a);
     }

@@ -22,7 +22,7 @@ use Rattle.graph.proofs.Good.{At, at-put, at-cut, emptied-row, good-remove-edge
 use Rattle.graph.proofs.Register.{Owned, register-good, register-ring}
 use Rattle.waits.specs.Tables.{noSlot, intentOf, waitersOf, withGraph, withIntents, own, write, hold, unhold, empty}
 use Rattle.waits.specs.Owners.{owners}
-use Rattle.waits.specs.Waiting.{Step, unwaited, clear, setIntent, register, renewFor, renew, start, renewAll, refresh, refreshNext, refreshLocks}
+use Rattle.waits.specs.Waiting.{Linking, unwaited, clear, setIntent, register, renewFor, renew, start, renewAll, refresh, refreshNext, refreshLocks}
 use Rattle.waits.specs.Validate.{names}
 use Rattle.waits.specs.declared.tables.Waits.{Waits}
 use Rattle.waits.specs.declared.intent.Slot.{Slot}
@@ -142,7 +142,7 @@ neat-first none q h j = j
 neat-first (some p) q h j = h
 
 -- what a rule hands on
-pub record Stepped (s : Step) : Type 0 where
+pub record Stepped (s : Linking) : Type 0 where
   pub fine : Fine (s .waits)
   pub neat : Neat (s .found)
 
@@ -186,7 +186,7 @@ stepped-refresh c w l f =
     let r = grows-all c w (upward 32 (waitersOf w l)) (start w) (upward-lt 32 (waitersOf w l)) (record { good = f .graph; neat = tt }) in
     record { fine = fine-graph w _ (r .good) f; neat = r .neat }
 
-stepped-next : (c : List ℕ) (ls : List ℕ) (s : Step) → Stepped s → Stepped (foldl (refreshNext c) s ls)
+stepped-next : (c : List ℕ) (ls : List ℕ) (s : Linking) → Stepped s → Stepped (foldl (refreshNext c) s ls)
 unfolding refreshNext
 stepped-next c [] s k = k
 stepped-next c (l ∷ ls) s k =

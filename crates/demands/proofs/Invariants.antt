@@ -4,19 +4,19 @@ use mathlib.Core.List.{List, [], _∷_}
 use Prim.Native.Nat.{ℕ, zero, suc}
 use lib.Dec.{lit<, lit≤}
 use lib.ListN.{getD, replicate}
-use Rattle.detector.specs.Tables.{Tables, empty, noWait, blankWait}
-use Rattle.detector.specs.State.{Waiting}
+use Rattle.detector.specs.Tables.{Tables, empty, noCvWait, blankCvWait}
+use Rattle.detector.specs.State.{ValidCvWait}
 use Rattle.detector.specs.declared.event.Event.{Event}
 use Rattle.detector.specs.declared.state.Pair.{Pair}
-use Rattle.detector.specs.Effects.{answer}
-use Rattle.detector.specs.Refusals.{reportRoom}
+use Rattle.detector.specs.Effects.{effect}
+use Rattle.detector.specs.Refusals.{bufferBytes}
 use Rattle.demands.specs.Reached.{reach}
 use Rattle.demands.specs.Invariants.{Kept, ReachedKept, ReachedBrief}
 use Rattle.demands.specs.Demand3.{FirstHalf}
-use Rattle.demands.proofs.Keeping.{answer-keeps}
+use Rattle.demands.proofs.Keeping.{effect-keeps}
 use Rattle.demands.proofs.Fine.{fine-empty, blank, fine-rules}
 use Rattle.detector.proofs.Brief.{all-brief}
-use Rattle.demands.proofs.Events.{answers-answer}
+use Rattle.demands.proofs.Events.{true-effect}
 
 pub kept-empty : Kept empty
 kept-empty =
@@ -26,8 +26,8 @@ kept-empty =
       condvars = refl;
       queues = λ c. rw (none 16 c) (lit≤ tt);
       seated = λ c. rw (none 16 c) tt;
-      sleepers = refl;
-      waiting = sleep 32;
+      cvPlaces = refl;
+      cvWaits = sleep 32;
       woken = lit< tt;
     }
   where
@@ -36,7 +36,7 @@ kept-empty =
     none (suc n) zero = refl
     none (suc n) (suc c) = none n c
 
-    sleep : (n t : ℕ) → Waiting (getD (replicate n noWait) t blankWait)
+    sleep : (n t : ℕ) → ValidCvWait (getD (replicate n noCvWait) t blankCvWait)
     sleep zero t = record { condvar = lit≤ tt; lock = lit< tt; absent = λ e. refl }
     sleep (suc n) zero = record { condvar = lit≤ tt; lock = lit< tt; absent = λ e. refl }
     sleep (suc n) (suc t) = sleep n t
@@ -44,7 +44,7 @@ kept-empty =
 kept-reach : (es : List Event) (x : Tables) → Kept x → Kept (reach x es)
 unfolding reach
 kept-reach [] x k = k
-kept-reach (e ∷ es) x k = kept-reach es (answer x reportRoom e .tables) (answer-keeps fine-rules x k reportRoom e)
+kept-reach (e ∷ es) x k = kept-reach es (effect x bufferBytes e .tables) (effect-keeps fine-rules x k bufferBytes e)
 
 pub reached-kept : ReachedKept
 reached-kept x r = subst Kept (r .reaches) (kept-reach (r .events) empty kept-empty)
@@ -53,4 +53,4 @@ pub reached-brief : ReachedBrief
 reached-brief x room e r = all-brief x room e (λ c h. reached-kept x r .queues c)
 
 pub first-half : FirstHalf
-first-half x room e r = answers-answer x room e (reached-kept x r)
+first-half x room e r = true-effect x room e (reached-kept x r)

@@ -13,29 +13,29 @@ use Rattle.sets.proofs.Below.{each-keeps}
 use Rattle.sets.proofs.Tables.{set-all}
 use Rattle.waits.specs.Tables.{intentOf, ownerOf, writerOf, withIntents, own, write, hold, unhold}
 use Rattle.waits.specs.Owners.{place, countOf}
-use Rattle.waits.specs.Waiting.{Step, clear, register, refresh, refreshNext, refreshLocks}
+use Rattle.waits.specs.Waiting.{Linking, clear, register, refresh, refreshNext, refreshLocks}
 use Rattle.waits.specs.Filter.{passes}
-use Rattle.waits.specs.Report.{quiet, saying}
+use Rattle.waits.specs.Report.{quiet, reporting}
 use Rattle.waits.specs.Validate.{names, valid, awaitedLocks, checked, validate}
-use Rattle.waits.specs.Attempt.{judgedOf, judged, sievedOf, sieved, settle, block, blockMutex, mutexOn, readOn, writeOn, free, blockWrite}
+use Rattle.waits.specs.Attempt.{judgeFound, judge, sieveFound, sieve, settle, block, blockMutex, mutexOn, readOn, writeOn, free, blockWrite}
 use Rattle.waits.specs.declared.tables.Waits.{Waits}
 use Rattle.waits.specs.declared.intent.WaitIntent.{WaitIntent}
 use Rattle.waits.specs.declared.outcome.Outcome.the-variants.{Took, Blocked, Hinted}
 use Rattle.waits.specs.declared.outcome.Tried.the-variants.{Taken, Missed}
-use Rattle.detector.specs.Tables.{Tables, noWait, blankWait, queueOf, withWaits, withCounts, withQueue, withWoken, silent}
+use Rattle.detector.specs.Tables.{Tables, noCvWait, blankCvWait, queueOf, withWaits, withCounts, withQueue, withWoken, silent}
 use Rattle.detector.specs.Mutex.{acquired, completeAcquire, acquireSlow, released, releaseMutex, clearNaming, unholdAll, purge, destroyMutex}
 use Rattle.detector.specs.RwLock.{countUp, countDown, completeRead, acquireRead, tryRead, loosen, releaseRead, writeAcquired, completeWrite, acquireWrite, writeReleased, releaseWrite, noReaders, setCount, destroyRwLock}
 use Rattle.detector.specs.Condvar.{condvarAt, createCondvar, forget, destroyCondvar, beginWait, Woken, attempted, wake, wakeAll, notifyFirst, notifyOne, notifyAll, isPair, leave, endWait}
 use Rattle.detector.specs.Events.{apply}
 use Rattle.detector.specs.Refusals.{Inside, numbersOf, fullCount, full, refusal}
-use Rattle.detector.specs.State.{Waiting}
+use Rattle.detector.specs.State.{ValidCvWait}
 use Rattle.detector.specs.declared.event.Event.{Event}
 use Rattle.detector.specs.declared.event.Event.the-variants.{MutexAttempt, MutexAcquired, MutexReleased, MutexExit, RwReadAttempt, RwReadAcquired, RwReadTry, RwReadReleased, RwWriteAttempt, RwWriteAcquired, RwWriteReleased, RwExit, CondvarSpawn, CondvarExit, CondvarWaitBegin, CondvarNotifyOne, CondvarNotifyAll, CondvarWaitEnd}
 use Rattle.detector.specs.declared.state.Pair.{Pair}
 use Rattle.detector.specs.declared.state.CvWait.{CvWait}
 use Rattle.detector.proofs.Numbers.{accepted}
-use Rattle.detector.proofs.Queues.{waiting-none, waiting-some}
-use Rattle.detector.specs.Effects.{answer}
+use Rattle.detector.proofs.Queues.{cv-wait-none, cv-wait-some}
+use Rattle.detector.specs.Effects.{effect}
 use Rattle.demands.specs.Invariants.{Counts, Seated, KeptWith}
 
 -- each rule of waiting keeps P
@@ -52,19 +52,19 @@ pub record Rules (P : Waits → Type 0) : Type 0 where
 
 -- ---- the other tables
 
-record Sleeping (v : List CvWait) : Type 0 where
+record CvWaits (v : List CvWait) : Type 0 where
   size : length v ≡ 32
-  all : (t : ℕ) → Waiting (getD v t blankWait)
+  all : (t : ℕ) → ValidCvWait (getD v t blankCvWait)
 
-sleeping-set : (v : List CvWait) (t : ℕ) (p : CvWait) → Waiting p → Sleeping v → Sleeping (set v t p)
-sleeping-set v t p h s = record { size = simp length-set (s .size); all = set-all Waiting v t p blankWait h (s .all) }
+cv-waits-set : (v : List CvWait) (t : ℕ) (p : CvWait) → ValidCvWait p → CvWaits v → CvWaits (set v t p)
+cv-waits-set v t p h s = record { size = simp length-set (s .size); all = set-all ValidCvWait v t p blankCvWait h (s .all) }
 
-sleeping-forget : (v : List CvWait) (c : ℕ) → Sleeping v → Sleeping (forget v c)
+sleeping-forget : (v : List CvWait) (c : ℕ) → CvWaits v → CvWaits (forget v c)
 unfolding forget
-sleeping-forget v c s = each-keeps Sleeping (λ u t. cond (eqb (condvarAt v t) c) (set u t noWait) u) 32 v (λ u t h r. go u t r (eqb (condvarAt v t) c)) s
+sleeping-forget v c s = each-keeps CvWaits (λ u t. cond (eqb (condvarAt v t) c) (set u t noCvWait) u) 32 v (λ u t h r. go u t r (eqb (condvarAt v t) c)) s
   where
-    go : (u : List CvWait) (t : ℕ) → Sleeping u → (b : Bool) → Sleeping (cond b (set u t noWait) u)
-    go u t r true = sleeping-set u t noWait waiting-none r
+    go : (u : List CvWait) (t : ℕ) → CvWaits u → (b : Bool) → CvWaits (cond b (set u t noCvWait) u)
+    go u t r true = cv-waits-set u t noCvWait cv-wait-none r
     go u t r false = r
 
 counts-set : (c : List ℕ) (i n : ℕ) → n ≤ 255 → Counts c → Counts (set c i n)
@@ -142,7 +142,7 @@ module _ {P : Waits → Type 0} (rules : Rules P) where
 
   -- ---- a judgement
 
-  locks-keeps : (c : List ℕ) (ls : List ℕ) (s : Step) → P (s .waits) → P (foldl (refreshNext c) s ls .waits)
+  locks-keeps : (c : List ℕ) (ls : List ℕ) (s : Linking) → P (s .waits) → P (foldl (refreshNext c) s ls .waits)
   unfolding refreshNext
   locks-keeps c [] s f = f
   locks-keeps c (l ∷ ls) s f = locks-keeps c ls (refreshNext c s l) (rules .refreshed c (s .waits) l f)
@@ -152,7 +152,7 @@ module _ {P : Waits → Type 0} (rules : Rules P) where
   checked-keeps c w none f = f
   checked-keeps c w (some p) f = go (valid c w p)
     where
-      go : (b : Bool) → P (cond b (saying w p) (quiet w) .waits)
+      go : (b : Bool) → P (cond b (reporting w p) (quiet w) .waits)
       go true = f
       go false = f
 
@@ -160,42 +160,42 @@ module _ {P : Waits → Type 0} (rules : Rules P) where
   unfolding validate refreshLocks
   validate-keeps c w p f = go (valid c w p)
     where
-      s : Step
+      s : Linking
       s = refreshLocks c w (awaitedLocks w p)
 
-      go : (b : Bool) → P (cond b (saying w p) (checked c (s .waits) (s .found)) .waits)
+      go : (b : Bool) → P (cond b (reporting w p) (checked c (s .waits) (s .found)) .waits)
       go true = f
       go false = checked-keeps c (s .waits) (s .found) (locks-keeps c (awaitedLocks w p) (record { waits = w; found = none }) f)
 
-  judged-keeps : (c : List ℕ) (s : Step) → P (s .waits) → P (judged c s .waits)
-  judged-keeps c s f = go (s .found)
+  judge-keeps : (c : List ℕ) (s : Linking) → P (s .waits) → P (judge c s .waits)
+  judge-keeps c s f = go (s .found)
     where
-      go : (o : Option (List ℕ)) → P (judgedOf c (s .waits) o .waits)
+      go : (o : Option (List ℕ)) → P (judgeFound c (s .waits) o .waits)
       go none = f
       go (some p) = validate-keeps c (s .waits) p f
 
-  sieved-keeps : (c : List ℕ) (s : Step) → P (s .waits) → P (sieved c s .waits)
-  sieved-keeps c s f = go (s .found)
+  sieve-keeps : (c : List ℕ) (s : Linking) → P (s .waits) → P (sieve c s .waits)
+  sieve-keeps c s f = go (s .found)
     where
       pass : (p : List ℕ) (b : Bool) → P (cond b (validate c (s .waits) p) (quiet (s .waits)) .waits)
       pass p true = validate-keeps c (s .waits) p f
       pass p false = f
 
-      go : (o : Option (List ℕ)) → P (sievedOf c (s .waits) o .waits)
+      go : (o : Option (List ℕ)) → P (sieveFound c (s .waits) o .waits)
       go none = f
       go (some p) = pass p (passes c (s .waits) p)
 
   settle-keeps : (c : List ℕ) (w : Waits) (l : ℕ) → P w → P (settle c w l .waits)
   unfolding settle
-  settle-keeps c w l f = judged-keeps c (refresh c w l) (rules .refreshed c w l f)
+  settle-keeps c w l f = judge-keeps c (refresh c w l) (rules .refreshed c w l f)
 
   block-keeps : (c : List ℕ) (w : Waits) (t : ℕ) (i : WaitIntent) → t < 32 → i .«lock_id» < 64 → P w → P (block c w t i .waits)
   unfolding block
-  block-keeps c w t i h k f = judged-keeps c (register c w t i) (rules .registered c w t i h k f)
+  block-keeps c w t i h k f = judge-keeps c (register c w t i) (rules .registered c w t i h k f)
 
   mutex-keeps : (c : List ℕ) (w : Waits) (t l : ℕ) → t < 32 → l < 64 → P w → P (blockMutex c w t l .waits)
   unfolding blockMutex
-  mutex-keeps c w t l h k f = sieved-keeps c (register c w t (mutexOn l)) (rules .registered c w t (mutexOn l) h k f)
+  mutex-keeps c w t l h k f = sieve-keeps c (register c w t (mutexOn l)) (rules .registered c w t (mutexOn l) h k f)
 
   write-keeps : (c : List ℕ) (w : Waits) (t l : ℕ) → t < 32 → l < 64 → P w → P (blockWrite c w t l .waits)
   unfolding blockWrite
@@ -217,13 +217,13 @@ module _ {P : Waits → Type 0} (rules : Rules P) where
 
   put-waits : (x : Tables) (w : Waits) → P w → KeptWith P x → KeptWith P (withWaits x w)
   put-waits x w f k =
-      record { waits = f; counts = k .counts; condvars = k .condvars; queues = k .queues; seated = k .seated; sleepers = k .sleepers; waiting = k .waiting; woken = k .woken }
+      record { waits = f; counts = k .counts; condvars = k .condvars; queues = k .queues; seated = k .seated; cvPlaces = k .cvPlaces; cvWaits = k .cvWaits; woken = k .woken }
 
   put-counts : (x : Tables) (w : Waits) (c : List ℕ) → P w → Counts c → KeptWith P x → KeptWith P (withCounts x w c)
   put-counts x w c f h k =
-      record { waits = f; counts = h; condvars = k .condvars; queues = k .queues; seated = k .seated; sleepers = k .sleepers; waiting = k .waiting; woken = k .woken }
+      record { waits = f; counts = h; condvars = k .condvars; queues = k .queues; seated = k .seated; cvPlaces = k .cvPlaces; cvWaits = k .cvWaits; woken = k .woken }
 
-  put-queue : (x : Tables) (c : ℕ) (q : List Pair) (v : List CvWait) → length q ≤ 32 → Seated q → Sleeping v → KeptWith P x → KeptWith P (withQueue x c q v)
+  put-queue : (x : Tables) (c : ℕ) (q : List Pair) (v : List CvWait) → length q ≤ 32 → Seated q → CvWaits v → KeptWith P x → KeptWith P (withQueue x c q v)
   put-queue x c q v n s h k =
       record {
         waits = k .waits;
@@ -231,17 +231,17 @@ module _ {P : Waits → Type 0} (rules : Rules P) where
         condvars = simp length-set (k .condvars);
         queues = set-all (λ (q : List Pair). length q ≤ 32) (x .«cv_waiters») c q [] n (k .queues);
         seated = set-all Seated (x .«cv_waiters») c q [] s (k .seated);
-        sleepers = h .size;
-        waiting = h .all;
+        cvPlaces = h .size;
+        cvWaits = h .all;
         woken = k .woken;
       }
 
   put-woken : (x : Tables) (w : Waits) (m : ℕ) → P w → m < 2 ^ 32 → KeptWith P x → KeptWith P (withWoken x w m)
   put-woken x w m f h k =
-      record { waits = f; counts = k .counts; condvars = k .condvars; queues = k .queues; seated = k .seated; sleepers = k .sleepers; waiting = k .waiting; woken = h }
+      record { waits = f; counts = k .counts; condvars = k .condvars; queues = k .queues; seated = k .seated; cvPlaces = k .cvPlaces; cvWaits = k .cvWaits; woken = h }
 
-  asleep : (x : Tables) → KeptWith P x → Sleeping (x .«thread_wait_cv»)
-  asleep x k = record { size = k .sleepers; all = k .waiting }
+  cvWaitsOf : (x : Tables) → KeptWith P x → CvWaits (x .«thread_wait_cv»)
+  cvWaitsOf x k = record { size = k .cvPlaces; all = k .cvWaits }
 
   -- ---- the events, by their rules
 
@@ -274,9 +274,9 @@ module _ {P : Waits → Type 0} (rules : Rules P) where
     unfolding tryRead
     kept-try t l e = put-counts x _ _ (rules .refreshed (countUp (x .«rwlock_readers») l t) (x .waits) l (k .waits)) (counts-up x t l e (k .counts)) k
 
-    kept-unread : (t l : ℕ) → t < 32 → KeptWith P (releaseRead x t l .tables)
+    kept-released : (t l : ℕ) → t < 32 → KeptWith P (releaseRead x t l .tables)
     unfolding releaseRead
-    kept-unread t l h =
+    kept-released t l h =
         put-counts x _ _ (if-keeps (eqb (countOf (x .«rwlock_readers») l t - 1) 0) (loosen (x .waits) t l) (x .waits) (rules .loosened (x .waits) t l h (k .waits)) (k .waits))
         (counts-down (x .«rwlock_readers») l t (k .counts)) k
 
@@ -298,17 +298,17 @@ module _ {P : Waits → Type 0} (rules : Rules P) where
 
     kept-spawn : (c : ℕ) → KeptWith P (createCondvar x c .tables)
     unfolding createCondvar
-    kept-spawn c = put-queue x c [] _ (omega arith) tt (asleep x k) k
+    kept-spawn c = put-queue x c [] _ (omega arith) tt (cvWaitsOf x k) k
 
     kept-exit : (c : ℕ) → KeptWith P (destroyCondvar x c .tables)
     unfolding destroyCondvar
-    kept-exit c = put-queue x c [] _ (omega arith) tt (sleeping-forget _ c (asleep x k)) k
+    kept-exit c = put-queue x c [] _ (omega arith) tt (sleeping-forget _ c (cvWaitsOf x k)) k
 
     kept-begin : (t c l : ℕ) → t < 32 → l < 64 → c < 16 → cond {A = ℕ} (ltb (length (queueOf x c)) 32) 0 7 ≡ 0 → KeptWith P (beginWait x t c l .tables)
     unfolding beginWait
     kept-begin t c l h i j e =
         put-queue x c _ _ (go (ltb (length (queueOf x c)) 32) refl e) (seated-snoc (queueOf x c) (record { thread = t; lock = l }) h i (k .seated c))
-        (sleeping-set _ t (record { condvar = c; lock = l }) (waiting-some c l j i) (asleep x k)) k
+        (cv-waits-set _ t (record { condvar = c; lock = l }) (cv-wait-some c l j i) (cvWaitsOf x k)) k
       where
         go : (b : Bool) → ltb (length (queueOf x c)) 32 ≡ b → cond {A = ℕ} b 0 7 ≡ 0 → length (queueOf x c ++ (record { thread = t; lock = l } ∷ [])) ≤ 32
         go true p z = omega (arith, length-append (queueOf x c) (record { thread = t; lock = l } ∷ []), ltb-true (length (queueOf x c)) 32 p)
@@ -318,7 +318,7 @@ module _ {P : Waits → Type 0} (rules : Rules P) where
     unfolding endWait
     kept-end t c l h =
         put-woken _ _ _ (rules .cleared (x .waits) t h (k .waits)) (omega (arith, without-le (x .«cv_woken») t, k .woken))
-        (put-queue x c _ _ (omega (arith, leave-less t l (queueOf x c), k .queues c)) (seated-leave t l (queueOf x c) (k .seated c)) (sleeping-set _ t noWait waiting-none (asleep x k)) k)
+        (put-queue x c _ _ (omega (arith, leave-less t l (queueOf x c), k .queues c)) (seated-leave t l (queueOf x c) (k .seated c)) (cv-waits-set _ t noCvWait cv-wait-none (cvWaitsOf x k)) k)
 
     -- one pair after the other
     woken-keeps : (q : List Pair) (s : Woken) → Seated q → P (s .waits) × (s .woken < 2 ^ 32)
@@ -333,7 +333,7 @@ module _ {P : Waits → Type 0} (rules : Rules P) where
     unfolding notifyAll wakeAll
     kept-all c =
         let r = woken-keeps (queueOf x c) (record { waits = x .waits; woken = x .«cv_woken»; reports = [] }) (k .seated c) (k .waits, k .woken) in
-        put-woken _ _ _ (r .0) (r .1) (put-queue x c [] _ (omega arith) tt (asleep x k) k)
+        put-woken _ _ _ (r .0) (r .1) (put-queue x c [] _ (omega arith) tt (cvWaitsOf x k) k)
 
     kept-first : (c : ℕ) → KeptWith P (notifyOne x c .tables)
     unfolding notifyOne wakeAll
@@ -343,7 +343,7 @@ module _ {P : Waits → Type 0} (rules : Rules P) where
         go [] n s = k
         go (p ∷ q) n s =
             let r = woken-keeps (p ∷ []) (record { waits = x .waits; woken = x .«cv_woken»; reports = [] }) (s .0, s .1, tt) (k .waits, k .woken) in
-            put-woken _ _ _ (r .0) (r .1) (put-queue x c q _ (omega arith) (s .2) (asleep x k) k)
+            put-woken _ _ _ (r .0) (r .1) (put-queue x c q _ (omega arith) (s .2) (cvWaitsOf x k) k)
 
     kept-apply : (e : Event) (room : ℕ) → Inside (numbersOf e) room → full x e ≡ 0 → KeptWith P (apply e x .tables)
     unfolding releaseMutex destroyMutex completeRead tryRead releaseRead releaseWrite destroyRwLock createCondvar destroyCondvar beginWait endWait
@@ -359,7 +359,7 @@ module _ {P : Waits → Type 0} (rules : Rules P) where
     kept-apply (RwReadAcquired t l) n h f = kept-read t l (h .thread) f
     kept-apply (RwReadTry t l Taken) n h f = kept-try t l f
     kept-apply (RwReadTry t l Missed) n h f = k
-    kept-apply (RwReadReleased t l) n h f = kept-unread t l (h .thread)
+    kept-apply (RwReadReleased t l) n h f = kept-released t l (h .thread)
     kept-apply (RwWriteAttempt t l Took) n h f = kept-write t l (h .thread) (h .lock)
     kept-apply (RwWriteAttempt t l Blocked) n h f = kept-writing (x .waits) t l (h .thread) (h .lock) (k .waits)
     kept-apply (RwWriteAttempt t l (Hinted o)) n h f = kept-writing _ t l (h .thread) (h .lock) (rules .wrote (x .waits) l o (omega (arith, h .hint)) (k .waits))
@@ -377,9 +377,9 @@ module _ {P : Waits → Type 0} (rules : Rules P) where
     pub served-keeps : (room : ℕ) (e : Event) → refusal x room e ≡ 0 → KeptWith P (apply e x .tables)
     served-keeps room e h = let a = accepted x room e h in kept-apply e room (a .inside) (a .notFull)
 
-    pub answer-keeps : (room : ℕ) (e : Event) → KeptWith P (answer x room e .tables)
-    unfolding answer
-    answer-keeps room e = go (eqb (refusal x room e) 0) refl
+    pub effect-keeps : (room : ℕ) (e : Event) → KeptWith P (effect x room e .tables)
+    unfolding effect
+    effect-keeps room e = go (eqb (refusal x room e) 0) refl
       where
         go : (b : Bool) → eqb (refusal x room e) 0 ≡ b → KeptWith P (cond b (apply e x) (silent x) .tables)
         go true q = served-keeps room e (eqb-true _ _ q)

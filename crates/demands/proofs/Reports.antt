@@ -9,11 +9,11 @@ use Rattle.sets.proofs.Lists.{among-in, both}
 use Rattle.graph.specs.Ways.{Round, Ring}
 use Rattle.waits.specs.Tables.{intentOf, lockOf}
 use Rattle.waits.specs.Owners.{blocking, waitsFor}
-use Rattle.waits.specs.Waiting.{Step, register, refresh, refreshLocks}
+use Rattle.waits.specs.Waiting.{Linking, register, refresh, refreshLocks}
 use Rattle.waits.specs.Filter.{passes}
-use Rattle.waits.specs.Report.{Report, Entry, entryOf, entriesOf, Said, quiet, saying}
+use Rattle.waits.specs.Report.{Report, Entry, entryOf, entriesOf, Judging, quiet, reporting}
 use Rattle.waits.specs.Validate.{around, valid, awaitedLocks, checked, validate}
-use Rattle.waits.specs.Attempt.{judgedOf, judged, sievedOf, sieved, settle, block, blockMutex, mutexOn}
+use Rattle.waits.specs.Attempt.{judgeFound, judge, sieveFound, sieve, settle, block, blockMutex, mutexOn}
 use Rattle.waits.specs.declared.tables.Waits.{Waits}
 use Rattle.waits.specs.declared.intent.WaitIntent.{WaitIntent}
 use Rattle.waits.specs.declared.intent.Awaits.{Awaits}
@@ -70,65 +70,65 @@ pub record Made (c : List ℕ) (w : Waits) (r : Report) : Type 0 where
   pub cycle : TrueCycle c (r .state) (entriesOf r)
   pub here : r .state ≡ w
 
-pub record Fair (c : List ℕ) (a : Said) : Type 0 where
+pub record Fair (c : List ℕ) (a : Judging) : Type 0 where
   pub fine : Fine (a .waits)
   pub each : Each (Made c (a .waits)) (a .reports)
 
 pub fair-quiet : (c : List ℕ) (w : Waits) → Fine w → Fair c (quiet w)
 fair-quiet c w f = record { fine = f; each = tt }
 
-fair-saying : (c : List ℕ) (w : Waits) (p : List ℕ) → Fine w → Distinct p → valid c w p ≡ true → Fair c (saying w p)
-fair-saying c w p f d e = record { fine = f; each = (record { cycle = valid-true c w p d e; here = refl }, tt) }
+fair-reporting : (c : List ℕ) (w : Waits) (p : List ℕ) → Fine w → Distinct p → valid c w p ≡ true → Fair c (reporting w p)
+fair-reporting c w p f d e = record { fine = f; each = (record { cycle = valid-true c w p d e; here = refl }, tt) }
 
 fair-checked : (c : List ℕ) (w : Waits) (o : Option (List ℕ)) → Fine w → Neat o → Fair c (checked c w o)
 unfolding checked
 fair-checked c w none f n = fair-quiet c w f
 fair-checked c w (some p) f n = go (valid c w p) refl
   where
-    go : (b : Bool) → valid c w p ≡ b → Fair c (cond b (saying w p) (quiet w))
-    go true e = fair-saying c w p f n e
+    go : (b : Bool) → valid c w p ≡ b → Fair c (cond b (reporting w p) (quiet w))
+    go true e = fair-reporting c w p f n e
     go false e = fair-quiet c w f
 
 fair-validate : (c : List ℕ) (w : Waits) (p : List ℕ) → Fine w → Distinct p → Fair c (validate c w p)
 unfolding validate
 fair-validate c w p f n = go (valid c w p) refl
   where
-    s : Step
+    s : Linking
     s = refreshLocks c w (awaitedLocks w p)
 
     r : Stepped (refreshLocks c w (awaitedLocks w p))
     r = stepped-locks c w (awaitedLocks w p) f
 
-    go : (b : Bool) → valid c w p ≡ b → Fair c (cond b (saying w p) (checked c (s .waits) (s .found)))
-    go true e = fair-saying c w p f n e
+    go : (b : Bool) → valid c w p ≡ b → Fair c (cond b (reporting w p) (checked c (s .waits) (s .found)))
+    go true e = fair-reporting c w p f n e
     go false e = fair-checked c (s .waits) (s .found) (r .fine) (r .neat)
 
-fair-judged : (c : List ℕ) (s : Step) → Stepped s → Fair c (judged c s)
-fair-judged c s r = go (s .found) (r .neat)
+fair-judge : (c : List ℕ) (s : Linking) → Stepped s → Fair c (judge c s)
+fair-judge c s r = go (s .found) (r .neat)
   where
-    go : (o : Option (List ℕ)) → Neat o → Fair c (judgedOf c (s .waits) o)
+    go : (o : Option (List ℕ)) → Neat o → Fair c (judgeFound c (s .waits) o)
     go none n = fair-quiet c (s .waits) (r .fine)
     go (some p) n = fair-validate c (s .waits) p (r .fine) n
 
-fair-sieved : (c : List ℕ) (s : Step) → Stepped s → Fair c (sieved c s)
-fair-sieved c s r = go (s .found) (r .neat)
+fair-sieve : (c : List ℕ) (s : Linking) → Stepped s → Fair c (sieve c s)
+fair-sieve c s r = go (s .found) (r .neat)
   where
     pass : (p : List ℕ) (b : Bool) → Distinct p → Fair c (cond b (validate c (s .waits) p) (quiet (s .waits)))
     pass p true n = fair-validate c (s .waits) p (r .fine) n
     pass p false n = fair-quiet c (s .waits) (r .fine)
 
-    go : (o : Option (List ℕ)) → Neat o → Fair c (sievedOf c (s .waits) o)
+    go : (o : Option (List ℕ)) → Neat o → Fair c (sieveFound c (s .waits) o)
     go none n = fair-quiet c (s .waits) (r .fine)
     go (some p) n = pass p (passes c (s .waits) p) n
 
 pub fair-settle : (c : List ℕ) (w : Waits) (l : ℕ) → Fine w → Fair c (settle c w l)
 unfolding settle
-fair-settle c w l f = fair-judged c (refresh c w l) (stepped-refresh c w l f)
+fair-settle c w l f = fair-judge c (refresh c w l) (stepped-refresh c w l f)
 
 pub fair-block : (c : List ℕ) (w : Waits) (t : ℕ) (i : WaitIntent) → t < 32 → i .«lock_id» < 64 → Fine w → Fair c (block c w t i)
 unfolding block
-fair-block c w t i h k f = fair-judged c (register c w t i) (stepped-register c w t i h k f)
+fair-block c w t i h k f = fair-judge c (register c w t i) (stepped-register c w t i h k f)
 
 pub fair-mutex : (c : List ℕ) (w : Waits) (t l : ℕ) → t < 32 → l < 64 → Fine w → Fair c (blockMutex c w t l)
 unfolding blockMutex
-fair-mutex c w t l h k f = fair-sieved c (register c w t (mutexOn l)) (stepped-register c w t (mutexOn l) h k f)
+fair-mutex c w t l h k f = fair-sieve c (register c w t (mutexOn l)) (stepped-register c w t (mutexOn l) h k f)

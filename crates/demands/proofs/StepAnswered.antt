@@ -9,15 +9,15 @@ use lib.Dec.{lit<, lit≤}
 use lib.ListN.{getD, length, take, replicate, length-append, length-map, List·getD-eq-default}
 use Rattle.waits.specs.Report.{written}
 use Rattle.waits.specs.Promises.{laid}
-use Rattle.detector.specs.Tables.{Tables, Answer, empty, noPair, queueOf}
+use Rattle.detector.specs.Tables.{Tables, Effect, empty, noPair, queueOf}
 use Rattle.detector.specs.Events.{apply}
 use Rattle.detector.specs.State.{pairsOf, tables, blankQueue, Queued, Valid, validTest}
-use Rattle.detector.specs.Promises.{refusalOf, Answers}
+use Rattle.detector.specs.Promises.{refusalOf, Replies}
 use Rattle.detector.specs.declared.event.Event.{Event}
 use Rattle.detector.specs.declared.state.Detector.{Detector}
 use Rattle.detector.specs.declared.state.Queue.{Queue}
 use Rattle.detector.specs.declared.state.Pair.{Pair}
-use Rattle.detector.specs.declared.reply.Answered.{Answered}
+use Rattle.detector.specs.declared.reply.Stepped.{Stepped}
 use Rattle.detector.specs.declared.reply.Reply.the-variants.{Reports, Refused}
 use Rattle.detector.proofs.Validity.{Shaped, tested-valid}
 use Rattle.detector.proofs.Numbers.{queue-at, queue-length}
@@ -73,7 +73,7 @@ stateOf x =
       waits = x .waits;
       «cv_woken» = x .«cv_woken»;
       «rwlock_readers» = x .«rwlock_readers»;
-      rest = record { «cv_waiters» = map placed (x .«cv_waiters»); «thread_wait_cv» = x .«thread_wait_cv» };
+      condvars = record { «cv_waiters» = map placed (x .«cv_waiters»); «thread_wait_cv» = x .«thread_wait_cv» };
     }
 
 means : (x : Tables) → tables (stateOf x) ≡ x
@@ -93,7 +93,7 @@ valid-state x k =
     record {
       waits = k .waits .range;
       queues = λ c h. placed-at (x .«cv_waiters») (k .queues) (k .seated) c (rw (k .condvars) h);
-      waiting = k .waiting;
+      cvWaits = k .cvWaits;
     }
 
 -- ---- what the types hold, and what a valid state keeps beside
@@ -113,7 +113,7 @@ typed-state d v k =
       writers = record { long = s .written; small = λ l. omega (arith, w .range .writer l) };
       woken = k .woken;
       readers = record { long = k .counts .size; small = λ i. omega (arith, k .counts .small i) };
-      queues = sym (length-map (d .rest .«cv_waiters») pairsOf) ∙ k .condvars;
+      queues = sym (length-map (d .condvars .«cv_waiters») pairsOf) ∙ k .condvars;
       places = λ c h.
           let q = v .queues c h in
           record {
@@ -122,8 +122,8 @@ typed-state d v k =
             locks = λ i. omega (arith, q .locks i);
             len = omega (arith, q .long);
           };
-      sleepers = k .sleepers;
-      waits = λ t. let u = v .waiting t in record { condvar = omega (arith, u .condvar); lock = omega (arith, u .lock) };
+      cvPlaces = k .cvPlaces;
+      cvWaits = λ t. let u = v .cvWaits t in record { condvar = omega (arith, u .condvar); lock = omega (arith, u .lock) };
     }
 
 seated-take : (n : ℕ) (q : List Pair) → ((k : ℕ) → getD q k noPair .thread < 32) → ((k : ℕ) → getD q k noPair .lock < 64) → Seated (take n q)
@@ -148,21 +148,21 @@ kept-state d y v =
         };
       };
       counts = record { size = y .readers .long; small = λ i. omega (arith, y .readers .small i) };
-      condvars = length-map (d .rest .«cv_waiters») pairsOf ∙ y .queues;
+      condvars = length-map (d .condvars .«cv_waiters») pairsOf ∙ y .queues;
       queues = λ c. queued c (decLt c 16) .0;
       seated = λ c. queued c (decLt c 16) .1;
-      sleepers = y .sleepers;
-      waiting = v .waiting;
+      cvPlaces = y .cvPlaces;
+      cvWaits = v .cvWaits;
       woken = y .woken;
     }
   where
     queued : (c : ℕ) → Dec (c < 16) → (length (queueOf (tables d) c) ≤ 32) × Seated (queueOf (tables d) c)
     queued c (yes h) =
-        let o = getD (d .rest .«cv_waiters») c blankQueue in
+        let o = getD (d .condvars .«cv_waiters») c blankQueue in
         let q = v .queues c h in
         (omega (arith, queue-length d c v h, q .long), rw (queue-at d c) (seated-take (o .len) (o .pairs) (q .threads) (q .locks)))
     queued c (no h) =
-        let e : getD (d .rest .«cv_waiters») c blankQueue ≡ blankQueue = List·getD-eq-default (d .rest .«cv_waiters») blankQueue (omega (arith, y .queues)) in
+        let e : getD (d .condvars .«cv_waiters») c blankQueue ≡ blankQueue = List·getD-eq-default (d .condvars .«cv_waiters») blankQueue (omega (arith, y .queues)) in
         (rw (queue-at d c, e) (lit≤ tt), rw (queue-at d c, e) tt)
 
 -- the empty state is held
@@ -172,12 +172,12 @@ starts-typed d s = typed-state d (s .valid) (subst (KeptWith Held) (sym (s .blan
     blank : KeptWith Held empty
     blank =
         let k = kept-empty in
-        record { waits = held (k .waits); counts = k .counts; condvars = k .condvars; queues = k .queues; seated = k .seated; sleepers = k .sleepers; waiting = k .waiting; woken = k .woken }
+        record { waits = held (k .waits); counts = k .counts; condvars = k .condvars; queues = k .queues; seated = k .seated; cvPlaces = k .cvPlaces; cvWaits = k .cvWaits; woken = k .woken }
 
 -- ---- THEOREM
 
 shaped : (d : Detector) → Typed d → Shaped d
-shaped d y = record { intents = y .slots; owners = y .owners .long; writers = y .writers .long; waiting = y .sleepers; cells = λ c h. y .places c h .long }
+shaped d y = record { intents = y .slots; owners = y .owners .long; writers = y .writers .long; cvWaits = y .cvPlaces; cells = λ c h. y .places c h .long }
 
 -- a served event's tables are again held
 pub served-held : (d : Detector) (ev : Event) (n : ℕ) → Typed d → refusalOf d n ev ≡ 0 → KeptWith Held (apply ev (tables d) .tables)
@@ -189,14 +189,14 @@ served-held d ev n y z = go (validTest d) refl
 
 -- a result with refusal number n
 abbrev Result : ℕ → Detector → Event → List ℕ → Type 0
-Result n d ev b = (r : Answered) × (e : List ℕ) × Answers n d ev r b e × Typed (r .detector)
+Result n d ev b = (r : Stepped) × (e : List ℕ) × Replies n d ev r b e × Typed (r .detector)
 
 refused-result : (n : ℕ) (d : Detector) (ev : Event) (b : List ℕ) → Typed d → 0 < n → Result n d ev b
 refused-result n d ev b y h = (record { detector = d; reply = Refused n }, b, refuse n d ev b h, y)
 
 served-result : (d : Detector) (ev : Event) (b : List ℕ) → KeptWith Held (apply ev (tables d) .tables) → Result 0 d ev b
 served-result d ev b k =
-    let a : Answer = apply ev (tables d) in
+    let a : Effect = apply ev (tables d) in
     let v = valid-state (a .tables) k in (
       record { detector = stateOf (a .tables); reply = Reports (length (a .reports)) },
       laid b 0 (written (a .reports)),

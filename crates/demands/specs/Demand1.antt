@@ -8,7 +8,7 @@ use lib.ListN.{length}
 use Rattle.detector.specs.Promises.{refusalOf, refusedBy, Steps}
 use Rattle.detector.specs.declared.event.Event.{Event}
 use Rattle.detector.specs.declared.state.Detector.{Detector}
-use Rattle.detector.specs.declared.reply.Answered.{Answered}
+use Rattle.detector.specs.declared.reply.Stepped.{Stepped}
 use Rattle.demands.specs.Driven.{Call, Back, Driven, Starts}
 use Rattle.detector.specs.Typed.{Typed}
 
@@ -17,7 +17,7 @@ use Rattle.detector.specs.Typed.{Typed}
 -- would be none: one with more entries than its type holds passes the test for ranges and cannot be served. That the types
 -- hold every state of the code to `Typed` is the contract of `typed` (src/types.rt).
 abbrev pub StepAnswered : Type 0
-StepAnswered = (d : Detector) (k : Call) → Typed d → (r : Answered) × (e : List ℕ) × Steps d (k .event) r (k .lent) e × Typed (r .detector)
+StepAnswered = (d : Detector) (k : Call) → Typed d → (r : Stepped) × (e : List ℕ) × Steps d (k .event) r (k .lent) e × Typed (r .detector)
 
 -- so any calls lead on, with an answer each (`all-answered`, `each-answered`); also from the empty state (`all-answered-from-new`)
 abbrev pub AllAnswered : Type 0
@@ -31,9 +31,9 @@ EachAnswered = (d e : Detector) (ks : List Call) (bs : List Back) → Driven d k
 
 -- REFUSED BY NUMBER (`refused-by-number`): the reply's number is that of document 01's table, 0 where it gives none, also
 -- in a state that keeps to no range; and after a refusal the state and the buffer are what they were
-pub record Refuses (d : Detector) (ev : Event) (r : Answered) (b e : List ℕ) : Type 0 where
+pub record Refuses (d : Detector) (ev : Event) (r : Stepped) (b e : List ℕ) : Type 0 where
   pub number : refusedBy (r .reply) ≡ refusalOf d (length b) ev
   pub same : 0 < refusedBy (r .reply) → (r .detector ≡ d) × (e ≡ b)
 
 abbrev pub RefusedByNumber : Type 0
-RefusedByNumber = (d : Detector) (ev : Event) (r : Answered) (b e : List ℕ) → Steps d ev r b e → Refuses d ev r b e
+RefusedByNumber = (d : Detector) (ev : Event) (r : Stepped) (b e : List ℕ) → Steps d ev r b e → Refuses d ev r b e

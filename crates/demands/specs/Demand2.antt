@@ -12,8 +12,8 @@ use Rattle.detector.specs.State.{tables, Valid}
 use Rattle.detector.specs.Promises.{refusedBy, Steps}
 use Rattle.detector.specs.declared.event.Event.{Event}
 use Rattle.detector.specs.declared.state.Detector.{Detector}
-use Rattle.detector.specs.declared.reply.Answered.{Answered}
-use Rattle.detector.specs.Effects.{answer, replied}
+use Rattle.detector.specs.declared.reply.Stepped.{Stepped}
+use Rattle.detector.specs.Effects.{effect, replied}
 use Rattle.demands.specs.Reached.{Reached}
 use Rattle.demands.specs.Driven.{Call, Back, Driven, Starts}
 use Rattle.detector.specs.Typed.{Typed}
@@ -23,11 +23,11 @@ abbrev pub backOf : Tables → Call → Back
 backOf x k =
     record {
       reply = replied x (length (k .lent)) (k .event);
-      buffer = laid (k .lent) 0 (written (answer x (length (k .lent)) (k .event) .reports));
+      buffer = laid (k .lent) 0 (written (effect x (length (k .lent)) (k .event) .reports));
     }
 
 abbrev pub onward : Tables → Call → Tables
-onward x k = answer x (length (k .lent)) (k .event) .tables
+onward x k = effect x (length (k .lent)) (k .event) .tables
 
 unfoldable pub backs : Tables → List Call → List Back
 backs x [] = []
@@ -63,4 +63,4 @@ Coincide =
 -- are one. A 17th queue, which the type has not, could hold anything behind its end.
 abbrev pub StepsCoincide : Type 0
 StepsCoincide =
-    (d : Detector) (ev : Event) (r q : Answered) (b e f : List ℕ) → Typed d → Steps d ev r b e → Steps d ev q b f → (r ≡ q) × (e ≡ f)
+    (d : Detector) (ev : Event) (r q : Stepped) (b e f : List ℕ) → Typed d → Steps d ev r b e → Steps d ev q b f → (r ≡ q) × (e ≡ f)

@@ -32,8 +32,8 @@ use Rattle.detector.specs.Stuck.{Truly}
 use Rattle.detector.specs.declared.event.Event.{Event}
 use Rattle.detector.specs.declared.event.Event.the-variants.{MutexAttempt, RwReadAttempt, RwWriteAttempt, CondvarNotifyAll}
 use Rattle.detector.specs.declared.state.Detector.{Detector}
-use Rattle.detector.specs.declared.reply.Answered.{Answered}
-use Rattle.detector.specs.Effects.{answer}
+use Rattle.detector.specs.declared.reply.Stepped.{Stepped}
+use Rattle.detector.specs.Effects.{effect}
 use Rattle.demands.specs.Reached.{Reached}
 use Rattle.demands.specs.Driven.{Call, Back, Driven, Starts}
 
@@ -71,7 +71,7 @@ Each P (r ∷ rs) = P r × Each P rs
 
 -- THE FIRST HALF (`first-half`), for every event and every buffer's length
 abbrev pub FirstHalf : Type 0
-FirstHalf = (x : Tables) (room : ℕ) (e : Event) → Reached x → Each (TrueReport x e (answer x room e .tables)) (answer x room e .reports)
+FirstHalf = (x : Tables) (room : ℕ) (e : Event) → Reached x → Each (TrueReport x e (effect x room e .tables)) (effect x room e .reports)
 
 -- Conversely, take a state so reached whose edges are exactly the true waits, and a blocked attempt whose hint is absent,
 -- names the recorded owner, or concerns a lock nobody else awaits. It is reported exactly when the true waits then hold a
@@ -106,7 +106,7 @@ pub record Shared (c : List ℕ) (w : Waits) (p : List ℕ) : Type 0 where
   pub lock : ℕ
   pub inside : lock < 64
   pub held : (t : ℕ) → In t p → has (holdsOf w t) lock ≡ true
-  pub unread : (t : ℕ) → t < 32 → countOf c lock t ≡ 0
+  pub nobodyReads : (t : ℕ) → t < 32 → countOf c lock t ≡ 0
 
 abbrev pub Spared : Tables → ℕ → ℕ → Outcome → Tables → Type 0
 Spared x t l o y = (p : List ℕ) × (pathFound x t l o ≡ some p) × Shared (y .«rwlock_readers») (y .waits) p
@@ -126,7 +126,7 @@ RwConverse x t l o n y = Apt x (writerOf (x .waits) l) t l o → (0 < n) ↔ Cyc
 abbrev pub Attempted : Converse → (ℕ → ℕ → Outcome → Event) → Type 0
 Attempted Holds event =
     (x : Tables) (room t l : ℕ) (o : Outcome) → Reached x → Exact x → refusal x room (event t l o) ≡ 0
-    → Holds x t l o (length (answer x room (event t l o) .reports)) (answer x room (event t l o) .tables)
+    → Holds x t l o (length (effect x room (event t l o) .reports)) (effect x room (event t l o) .tables)
 
 pub record SecondHalf : Type 0 where
   pub mutex : Attempted MutexConverse MutexAttempt
@@ -134,7 +134,7 @@ pub record SecondHalf : Type 0 where
   pub write : Attempted RwConverse RwWriteAttempt
 
 -- CARRIED TO THE CODE (`reports-true`, `converse`): the same of what `step` returns in a state fed from the empty one
-pub record TrueReports (d : Detector) (ev : Event) (r : Answered) (b e : List ℕ) : Type 0 where
+pub record TrueReports (d : Detector) (ev : Event) (r : Stepped) (b e : List ℕ) : Type 0 where
   pub reports : List Report
   pub count : reportsOf (r .reply) ≡ length reports
   pub bytes : e ≡ laid b 0 (written reports)
@@ -143,12 +143,12 @@ pub record TrueReports (d : Detector) (ev : Event) (r : Answered) (b e : List �
 abbrev pub ReportsTrue : Type 0
 ReportsTrue =
     (d₀ d : Detector) (ks : List Call) (bs : List Back) → Starts d₀ → Driven d₀ ks bs d
-    → (ev : Event) (r : Answered) (b e : List ℕ) → Steps d ev r b e → TrueReports d ev r b e
+    → (ev : Event) (r : Stepped) (b e : List ℕ) → Steps d ev r b e → TrueReports d ev r b e
 
 abbrev pub Called : Converse → (ℕ → ℕ → Outcome → Event) → Type 0
 Called Holds event =
     (d₀ d : Detector) (ks : List Call) (bs : List Back) → Starts d₀ → Driven d₀ ks bs d → Exact (tables d)
-    → (t l : ℕ) (o : Outcome) (r : Answered) (b e : List ℕ) → Steps d (event t l o) r b e → refusedBy (r .reply) ≡ 0
+    → (t l : ℕ) (o : Outcome) (r : Stepped) (b e : List ℕ) → Steps d (event t l o) r b e → refusedBy (r .reply) ≡ 0
     → Holds (tables d) t l o (reportsOf (r .reply)) (tables (r .detector))
 
 pub record CalledHalf : Type 0 where

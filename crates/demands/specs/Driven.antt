@@ -8,7 +8,7 @@ use Rattle.detector.specs.State.{tables, Valid}
 use Rattle.detector.specs.Promises.{Steps}
 use Rattle.detector.specs.declared.event.Event.{Event}
 use Rattle.detector.specs.declared.state.Detector.{Detector}
-use Rattle.detector.specs.declared.reply.Answered.{Answered}
+use Rattle.detector.specs.declared.reply.Stepped.{Stepped}
 use Rattle.detector.specs.declared.reply.Reply.{Reply}
 
 -- what goes in, and what comes back
@@ -23,7 +23,7 @@ pub record Back : Type 0 where
 -- the calls ks drive it from state d to state e and give back bs
 pub data Driven : Detector → List Call → List Back → Detector → Type 0 where
   none : {d : Detector} → Driven d [] [] d
-  next : {d : Detector} {k : Call} {r : Answered} {b : List ℕ} {ks : List Call} {bs : List Back} {e : Detector}
+  next : {d : Detector} {k : Call} {r : Stepped} {b : List ℕ} {ks : List Call} {bs : List Back} {e : Detector}
       → Steps d (k .event) r (k .lent) b → Driven (r .detector) ks bs e → Driven d (k ∷ ks) (record { reply = r .reply; buffer = b } ∷ bs) e
 
 -- the empty state, as `new` gives it

@@ -11,9 +11,9 @@ use Rattle.waits.specs.Tables.{intentOf, waitersOf, InRange}
 use Rattle.waits.specs.Validate.{names}
 use Rattle.waits.specs.declared.tables.Waits.{Waits}
 use Rattle.waits.specs.declared.intent.Slot.{Slot}
-use Rattle.detector.specs.Tables.{Tables, blankWait, queueOf}
-use Rattle.detector.specs.State.{Waiting}
-use Rattle.detector.specs.Effects.{answer}
+use Rattle.detector.specs.Tables.{Tables, blankCvWait, queueOf}
+use Rattle.detector.specs.State.{ValidCvWait}
+use Rattle.detector.specs.Effects.{effect}
 use Rattle.detector.specs.Brief.{Brief}
 use Rattle.detector.specs.declared.event.Event.{Event}
 use Rattle.detector.specs.declared.state.Pair.{Pair}
@@ -54,8 +54,8 @@ pub record KeptWith (P : Waits → Type 0) (x : Tables) : Type 0 where
   pub condvars : length (x .«cv_waiters») ≡ 16
   pub queues : (c : ℕ) → length (queueOf x c) ≤ 32
   pub seated : (c : ℕ) → Seated (queueOf x c)
-  pub sleepers : length (x .«thread_wait_cv») ≡ 32
-  pub waiting : (t : ℕ) → Waiting (getD (x .«thread_wait_cv») t blankWait)
+  pub cvPlaces : length (x .«thread_wait_cv») ≡ 32
+  pub cvWaits : (t : ℕ) → ValidCvWait (getD (x .«thread_wait_cv») t blankCvWait)
   pub woken : x .«cv_woken» < 2 ^ 32
 
 abbrev pub Kept : Tables → Type 0
@@ -66,4 +66,4 @@ abbrev pub ReachedKept : Type 0
 ReachedKept = (x : Tables) → Reached x → Kept x
 
 abbrev pub ReachedBrief : Type 0
-ReachedBrief = (x : Tables) (room : ℕ) (e : Event) → Reached x → Brief e (answer x room e .reports)
+ReachedBrief = (x : Tables) (room : ℕ) (e : Event) → Reached x → Brief e (effect x room e .reports)

@@ -2,14 +2,14 @@
 use mathlib.Core.Path.{_≡_}
 use mathlib.Core.List.{List, [], _∷_}
 use Rattle.detector.specs.Tables.{Tables, empty}
-use Rattle.detector.specs.Refusals.{reportRoom}
-use Rattle.detector.specs.Effects.{answer}
+use Rattle.detector.specs.Refusals.{bufferBytes}
+use Rattle.detector.specs.Effects.{effect}
 use Rattle.detector.specs.declared.event.Event.{Event}
 
 -- the tables after the events
 unfoldable pub reach : Tables → List Event → Tables
 reach x [] = x
-reach x (e ∷ es) = reach (answer x reportRoom e .tables) es
+reach x (e ∷ es) = reach (effect x bufferBytes e .tables) es
 
 -- x is reached from the empty state
 pub record Reached (x : Tables) : Type 0 where

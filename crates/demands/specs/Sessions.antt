@@ -14,13 +14,13 @@ use Rattle.waits.specs.declared.intent.Awaits.the-variants.{Nothing, For}
 use Rattle.waits.specs.declared.outcome.Outcome.{Outcome}
 use Rattle.waits.specs.declared.outcome.Outcome.the-variants.{Took, Blocked, Hinted}
 use Rattle.waits.specs.declared.outcome.Tried.the-variants.{Taken}
-use Rattle.detector.specs.Tables.{Tables, Answer, empty, noWait, blankWait}
-use Rattle.detector.specs.Refusals.{refusal, reportRoom}
+use Rattle.detector.specs.Tables.{Tables, Effect, empty, noCvWait, blankCvWait}
+use Rattle.detector.specs.Refusals.{refusal, bufferBytes}
 use Rattle.detector.specs.Stuck.{stuckCount}
 use Rattle.detector.specs.declared.event.Event.{Event}
 use Rattle.detector.specs.declared.event.Event.the-variants.{MutexAttempt, MutexAcquired, MutexReleased, MutexExit, RwReadAttempt, RwReadAcquired, RwReadTry, RwReadReleased, RwWriteAttempt, RwWriteAcquired, RwWriteReleased, RwExit, CondvarSpawn, CondvarExit, CondvarWaitBegin, CondvarNotifyOne, CondvarNotifyAll, CondvarWaitEnd}
 use Rattle.detector.specs.declared.state.CvWait.{CvWait}
-use Rattle.detector.specs.Effects.{answer}
+use Rattle.detector.specs.Effects.{effect}
 use Rattle.demands.specs.Reached.{reach}
 
 -- two numbers side by side: a thread and the lock that it awaits, or an edge
@@ -51,7 +51,7 @@ intentsIn w = each (λ l t. l ++ intentFrom t (intentOf w t)) [] 32
 abbrev pub printed : Report → Pairs
 printed r = map (λ e. (e .thread, e .lock)) (entriesOf r)
 
-unfoldable pub seen : ℕ → Answer → Seen
+unfoldable pub seen : ℕ → Effect → Seen
 seen n a =
     let w = a .tables .waits in
     record {
@@ -66,7 +66,7 @@ seen n a =
 -- what the rules say of events one after the other
 unfoldable pub run : Tables → List Event → List Seen
 run x [] = []
-run x (e ∷ es) = let a = answer x reportRoom e in seen (refusal x reportRoom e) a ∷ run (a .tables) es
+run x (e ∷ es) = let a = effect x bufferBytes e in seen (refusal x bufferBytes e) a ∷ run (a .tables) es
 
 -- THE WORDS, as document 01 writes them
 abbrev pub took : Outcome
@@ -136,22 +136,22 @@ ce t c l = CondvarWaitEnd t c l
 -- make of it
 pub record Line : Type 0 where
   pub event : Event
-  pub says : Seen
+  pub expects : Seen
 
 -- nothing is reported: the event, then edges, intents and stuck threads
 abbrev pub quiet : Event → Pairs → Pairs → ℕ → Line
-quiet e g i n = record { event = e; says = record { refused = 0; reports = []; bytes = []; edges = g; intents = i; stuck = n } }
+quiet e g i n = record { event = e; expects = record { refused = 0; reports = []; bytes = []; edges = g; intents = i; stuck = n } }
 
 -- cycles are, or one is: the event, the cycles, their bytes, then as above
 abbrev pub cycles : Event → List Pairs → List ℕ → Pairs → Pairs → ℕ → Line
-cycles e rs b g i n = record { event = e; says = record { refused = 0; reports = rs; bytes = b; edges = g; intents = i; stuck = n } }
+cycles e rs b g i n = record { event = e; expects = record { refused = 0; reports = rs; bytes = b; edges = g; intents = i; stuck = n } }
 
 abbrev pub cycle : Event → Pairs → List ℕ → Pairs → Pairs → ℕ → Line
 cycle e r b g i n = cycles e (r ∷ []) b g i n
 
 -- refused by this number, with no edge and no intent
 abbrev pub refused : Event → ℕ → Line
-refused e n = record { event = e; says = record { refused = n; reports = []; bytes = []; edges = []; intents = []; stuck = 0 } }
+refused e n = record { event = e; expects = record { refused = n; reports = []; bytes = []; edges = []; intents = []; stuck = 0 } }
 
 -- a session by its number in document 01
 pub record Session : Type 0 where
@@ -336,20 +336,20 @@ further =
 unfoldable pub ruled : List Session → List (List Seen)
 ruled ss = map (λ s. run empty (map (λ k. k .event) (s .lines))) ss
 
-unfoldable pub told : List Session → List (List Seen)
-told ss = map (λ s. map (λ k. k .says) (s .lines)) ss
+unfoldable pub expected : List Session → List (List Seen)
+expected ss = map (λ s. map (λ k. k .expects) (s .lines)) ss
 
 -- cn keeps a thread's wait and cd drops it: no later event tells them apart, the tables do
-abbrev pub waitAfter : List Event → ℕ → CvWait
-waitAfter es t = getD (reach empty es .«thread_wait_cv») t blankWait
+abbrev pub cvWaitAfter : List Event → ℕ → CvWait
+cvWaitAfter es t = getD (reach empty es .«thread_wait_cv») t blankCvWait
 
-pub record WaitsHold : Type 0 where
-  pub spawned : waitAfter (cb 2 0 5 ∷ cn 0 ∷ []) 2 ≡ record { condvar = 0; lock = 5 }
-  pub gone : waitAfter (cb 2 0 5 ∷ cd 0 ∷ []) 2 ≡ noWait
+pub record CvWaitsHold : Type 0 where
+  pub spawned : cvWaitAfter (cb 2 0 5 ∷ cn 0 ∷ []) 2 ≡ record { condvar = 0; lock = 5 }
+  pub gone : cvWaitAfter (cb 2 0 5 ∷ cd 0 ∷ []) 2 ≡ noCvWait
 
 -- THE THEOREMS (`sessions-hold`, `further-hold`, `waits-hold`)
 abbrev pub SessionsHold : Type 0
-SessionsHold = ruled sessions ≡ told sessions
+SessionsHold = ruled sessions ≡ expected sessions
 
 abbrev pub FurtherHold : Type 0
-FurtherHold = ruled further ≡ told further
+FurtherHold = ruled further ≡ expected further

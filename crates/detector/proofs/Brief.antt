@@ -12,15 +12,15 @@ use Rattle.graph.proofs.Fits.{Fits}
 use Rattle.waits.specs.Tables.{ownerOf}
 use Rattle.waits.specs.Waiting.{register, refresh, refreshLocks}
 use Rattle.waits.specs.Filter.{passes}
-use Rattle.waits.specs.Report.{Report, Said, report, bytesOf, reportBytes, written, quiet, saying}
+use Rattle.waits.specs.Report.{Report, Judging, report, bytesOf, reportBytes, written, quiet, reporting}
 use Rattle.waits.specs.Validate.{valid, awaitedLocks, checked, validate}
-use Rattle.waits.specs.Attempt.{judgedOf, sievedOf, settle, block, blockMutex, mutexOn, writeOn, free, blockWrite}
+use Rattle.waits.specs.Attempt.{judgeFound, sieveFound, settle, block, blockMutex, mutexOn, writeOn, free, blockWrite}
 use Rattle.waits.specs.declared.tables.Waits.{Waits}
 use Rattle.waits.specs.declared.intent.WaitIntent.{WaitIntent}
 use Rattle.waits.specs.declared.outcome.Outcome.the-variants.{Took, Blocked, Hinted}
 use Rattle.waits.specs.declared.outcome.Tried.the-variants.{Taken, Missed}
 use Rattle.waits.proofs.Laws.{fits-register, fits-refresh, fits-locks}
-use Rattle.waits.proofs.Telling.{length-bytes}
+use Rattle.waits.proofs.Judging.{length-bytes}
 use Rattle.detector.specs.Tables.{Tables, queueOf, silent}
 use Rattle.detector.specs.Mutex.{completeAcquire, acquireSlow, releaseMutex, destroyMutex}
 use Rattle.detector.specs.RwLock.{completeRead, acquireRead, tryRead, releaseRead, completeWrite, acquireWrite, releaseWrite, destroyRwLock}
@@ -32,7 +32,7 @@ use Rattle.detector.specs.declared.event.Event.{Event}
 use Rattle.detector.specs.declared.event.Event.the-variants.{MutexAttempt, MutexAcquired, MutexReleased, MutexExit, RwReadAttempt, RwReadAcquired, RwReadTry, RwReadReleased, RwWriteAttempt, RwWriteAcquired, RwWriteReleased, RwExit, CondvarSpawn, CondvarExit, CondvarWaitBegin, CondvarNotifyOne, CondvarNotifyAll, CondvarWaitEnd}
 use Rattle.detector.specs.declared.state.Pair.{Pair}
 use Rattle.detector.proofs.Numbers.{accepted, queue-length}
-use Rattle.detector.specs.Effects.{answer}
+use Rattle.detector.specs.Effects.{effect}
 use Rattle.detector.specs.Brief.{most, ShortQueues, Brief, AllBrief, ValidBrief}
 
 -- at most n reports, each of at most 32 entries
@@ -46,51 +46,51 @@ short-none n = record { few = omega arith; bytes = lit≤ tt }
 
 -- ---- a judgement
 
-abbrev One : Said → Type 0
+abbrev One : Judging → Type 0
 One a = Short 1 (a .reports)
 
 one-quiet : (w : Waits) → One (quiet w)
 one-quiet w = short-none 1
 
-one-saying : (w : Waits) (p : List ℕ) → length p ≤ 32 → One (saying w p)
+one-reporting : (w : Waits) (p : List ℕ) → length p ≤ 32 → One (reporting w p)
 unfolding written
-one-saying w p h = record { few = omega arith; bytes = omega (arith, length-append (bytesOf (report w p)) [], length-bytes w p, h) }
+one-reporting w p h = record { few = omega arith; bytes = omega (arith, length-append (bytesOf (report w p)) [], length-bytes w p, h) }
 
-either : (b : Bool) (x y : Said) → One x → One y → One (cond b x y)
+either : (b : Bool) (x y : Judging) → One x → One y → One (cond b x y)
 either true x y h k = h
 either false x y h k = k
 
 one-checked : (c : List ℕ) (w : Waits) (o : Option (List ℕ)) → Fits o → One (checked c w o)
 unfolding checked
 one-checked c w none f = one-quiet w
-one-checked c w (some p) f = either (valid c w p) (saying w p) (quiet w) (one-saying w p (f .long)) (one-quiet w)
+one-checked c w (some p) f = either (valid c w p) (reporting w p) (quiet w) (one-reporting w p (f .long)) (one-quiet w)
 
 one-validate : (c : List ℕ) (w : Waits) (p : List ℕ) → length p ≤ 32 → One (validate c w p)
 unfolding validate
 one-validate c w p h =
     let s = refreshLocks c w (awaitedLocks w p) in
-    either (valid c w p) (saying w p) (checked c (s .waits) (s .found)) (one-saying w p h) (one-checked c (s .waits) (s .found) (fits-locks c w (awaitedLocks w p)))
+    either (valid c w p) (reporting w p) (checked c (s .waits) (s .found)) (one-reporting w p h) (one-checked c (s .waits) (s .found) (fits-locks c w (awaitedLocks w p)))
 
-one-judged : (c : List ℕ) (w : Waits) (o : Option (List ℕ)) → Fits o → One (judgedOf c w o)
-one-judged c w none f = one-quiet w
-one-judged c w (some p) f = one-validate c w p (f .long)
+one-judge : (c : List ℕ) (w : Waits) (o : Option (List ℕ)) → Fits o → One (judgeFound c w o)
+one-judge c w none f = one-quiet w
+one-judge c w (some p) f = one-validate c w p (f .long)
 
-one-sieved : (c : List ℕ) (w : Waits) (o : Option (List ℕ)) → Fits o → One (sievedOf c w o)
-one-sieved c w none f = one-quiet w
-one-sieved c w (some p) f = either (passes c w p) (validate c w p) (quiet w) (one-validate c w p (f .long)) (one-quiet w)
+one-sieve : (c : List ℕ) (w : Waits) (o : Option (List ℕ)) → Fits o → One (sieveFound c w o)
+one-sieve c w none f = one-quiet w
+one-sieve c w (some p) f = either (passes c w p) (validate c w p) (quiet w) (one-validate c w p (f .long)) (one-quiet w)
 
 module _ (c : List ℕ) (w : Waits) where
   one-settle : (l : ℕ) → One (settle c w l)
   unfolding settle
-  one-settle l = let s = refresh c w l in one-judged c (s .waits) (s .found) (fits-refresh c w l)
+  one-settle l = let s = refresh c w l in one-judge c (s .waits) (s .found) (fits-refresh c w l)
 
   one-block : (t : ℕ) (i : WaitIntent) → One (block c w t i)
   unfolding block
-  one-block t i = let s = register c w t i in one-judged c (s .waits) (s .found) (fits-register c w t i)
+  one-block t i = let s = register c w t i in one-judge c (s .waits) (s .found) (fits-register c w t i)
 
   one-mutex : (t l : ℕ) → One (blockMutex c w t l)
   unfolding blockMutex
-  one-mutex t l = let s = register c w t (mutexOn l) in one-sieved c (s .waits) (s .found) (fits-register c w t (mutexOn l))
+  one-mutex t l = let s = register c w t (mutexOn l) in one-sieve c (s .waits) (s .found) (fits-register c w t (mutexOn l))
 
   one-write : (t l : ℕ) → One (blockWrite c w t l)
   unfolding blockWrite
@@ -189,7 +189,7 @@ brief : (e : Event) (rs : List Report) → Short (most e) rs → Brief e rs
 brief e rs s = record { few = s .few; room = omega (arith, s .few, s .bytes, most-32 e) }
 
 pub all-brief : AllBrief
-unfolding answer
+unfolding effect
 all-brief x room e k = go (eqb (refusal x room e) 0) refl
   where
     go : (b : Bool) → eqb (refusal x room e) 0 ≡ b → Brief e (cond b (apply e x) (silent x) .reports)

@@ -12,7 +12,7 @@ use Rattle.waits.specs.Owners.{countOf}
 use Rattle.waits.specs.declared.outcome.Outcome.the-variants.{Took, Blocked, Hinted}
 use Rattle.waits.specs.declared.outcome.Tried.the-variants.{Taken, Missed}
 use Rattle.detector.specs.Tables.{Tables, queueOf}
-use Rattle.detector.specs.Refusals.{Numbers, Inside, numbersOf, outside, fullQueue, fullCount, full, refusal, reportRoom}
+use Rattle.detector.specs.Refusals.{Numbers, Inside, numbersOf, outside, fullQueue, fullCount, full, refusal, bufferBytes}
 use Rattle.detector.specs.State.{tables, pairsOf, blankQueue, Valid}
 use Rattle.detector.specs.declared.event.Event.{Event}
 use Rattle.detector.specs.declared.event.Event.the-variants.{MutexAttempt, MutexAcquired, MutexReleased, MutexExit, RwReadAttempt, RwReadAcquired, RwReadTry, RwReadReleased, RwWriteAttempt, RwWriteAcquired, RwWriteReleased, RwExit, CondvarSpawn, CondvarExit, CondvarWaitBegin, CondvarNotifyOne, CondvarNotifyAll, CondvarWaitEnd}
@@ -26,16 +26,16 @@ module _ (n : Numbers) (room : ℕ) where
   pub inside-next : (next : ℕ) → Inside n room → outside n room next ≡ next
   unfolding outside
   inside-next next i =
-      rw (le-ltb 31 (n .thread) (omega (arith, i .thread)), le-ltb 31 (n .hint) (omega (arith, i .hint)), le-ltb 63 (n .lock) (omega (arith, i .lock)), le-ltb 15 (n .condvar) (omega (arith, i .condvar)), le-ltb room reportRoom (i .room))
+      rw (le-ltb 31 (n .thread) (omega (arith, i .thread)), le-ltb 31 (n .hint) (omega (arith, i .hint)), le-ltb 63 (n .lock) (omega (arith, i .lock)), le-ltb 15 (n .condvar) (omega (arith, i .condvar)), le-ltb room bufferBytes (i .room))
 
   Refusing : (k next : ℕ) → Type 0
   Refusing k next = ((k ≡ 0) → Inside n room) × ((0 < k) → outside n room next ≡ k)
 
   cases : (next : ℕ) → Refusing (outside n room 0) next
   unfolding outside Refusing
-  cases next = go (ltb 31 (n .thread)) (ltb 31 (n .hint)) (ltb 63 (n .lock)) (ltb 15 (n .condvar)) (ltb room reportRoom) refl refl refl refl refl
+  cases next = go (ltb 31 (n .thread)) (ltb 31 (n .hint)) (ltb 63 (n .lock)) (ltb 15 (n .condvar)) (ltb room bufferBytes) refl refl refl refl refl
     where
-      go : (t h l c r : Bool) → ltb 31 (n .thread) ≡ t → ltb 31 (n .hint) ≡ h → ltb 63 (n .lock) ≡ l → ltb 15 (n .condvar) ≡ c → ltb room reportRoom ≡ r
+      go : (t h l c r : Bool) → ltb 31 (n .thread) ≡ t → ltb 31 (n .hint) ≡ h → ltb 63 (n .lock) ≡ l → ltb 15 (n .condvar) ≡ c → ltb room bufferBytes ≡ r
           → ((chosen t h l c r 0 ≡ 0) → Inside n room) × ((0 < chosen t h l c r 0) → chosen t h l c r next ≡ chosen t h l c r 0)
       go true h l c r p q s u v = (λ e. absurd (omega arith), λ e. refl)
       go false true l c r p q s u v = (λ e. absurd (omega arith), λ e. refl)
@@ -48,7 +48,7 @@ module _ (n : Numbers) (room : ℕ) where
           hint = let k = ltb-false 31 (n .hint) q in omega arith;
           lock = let k = ltb-false 63 (n .lock) s in omega arith;
           condvar = let k = ltb-false 15 (n .condvar) u in omega arith;
-          room = ltb-false room reportRoom v;
+          room = ltb-false room bufferBytes v;
         },
         λ e. absurd (omega arith),
       )
@@ -129,24 +129,24 @@ module _ (x : Tables) where
       let n = numbersOf e in
       let three = known 3 (lit≤ tt) (lit≤ tt) in
       known-if (ltb 31 (n .thread)) three (known-if (ltb 31 (n .hint)) three (known-if (ltb 63 (n .lock)) (known 4 (lit≤ tt) (lit≤ tt))
-      (known-if (ltb 15 (n .condvar)) (known 5 (lit≤ tt) (lit≤ tt)) (known-if (ltb room reportRoom) (known 6 (lit≤ tt) (lit≤ tt)) (full-known e)))))
+      (known-if (ltb 15 (n .condvar)) (known 5 (lit≤ tt) (lit≤ tt)) (known-if (ltb room bufferBytes) (known 6 (lit≤ tt) (lit≤ tt)) (full-known e)))))
 
 -- ---- queues
 
 -- a queue's length as the code keeps it
-pub queue-at : (d : Detector) (c : ℕ) → queueOf (tables d) c ≡ pairsOf (getD (d .rest .«cv_waiters») c blankQueue)
-queue-at d c = List·getD-map pairsOf (d .rest .«cv_waiters») c blankQueue
+pub queue-at : (d : Detector) (c : ℕ) → queueOf (tables d) c ≡ pairsOf (getD (d .condvars .«cv_waiters») c blankQueue)
+queue-at d c = List·getD-map pairsOf (d .condvars .«cv_waiters») c blankQueue
 
-pub queue-length : (d : Detector) (c : ℕ) → Valid d → c < 16 → length (queueOf (tables d) c) ≡ getD (d .rest .«cv_waiters») c blankQueue .len
+pub queue-length : (d : Detector) (c : ℕ) → Valid d → c < 16 → length (queueOf (tables d) c) ≡ getD (d .condvars .«cv_waiters») c blankQueue .len
 queue-length d c v h =
-    let q = getD (d .rest .«cv_waiters») c blankQueue in
+    let q = getD (d .condvars .«cv_waiters») c blankQueue in
     let k = v .queues c h in
     ap length (queue-at d c) ∙ length-take-le (q .len) (q .pairs) (omega (arith, k .long, k .cells))
 
 -- a queue that is not full has room for one pair more
-pub room-left : (d : Detector) (c : ℕ) → Valid d → c < 16 → fullQueue (tables d) c ≡ 0 → getD (d .rest .«cv_waiters») c blankQueue .len < 32
+pub room-left : (d : Detector) (c : ℕ) → Valid d → c < 16 → fullQueue (tables d) c ≡ 0 → getD (d .condvars .«cv_waiters») c blankQueue .len < 32
 room-left d c v h e = go (ltb (length (queueOf (tables d) c)) 32) refl e
   where
-    go : (b : Bool) → ltb (length (queueOf (tables d) c)) 32 ≡ b → _≡_ {A = ℕ} (cond b 0 7) 0 → getD (d .rest .«cv_waiters») c blankQueue .len < 32
+    go : (b : Bool) → ltb (length (queueOf (tables d) c)) 32 ≡ b → _≡_ {A = ℕ} (cond b 0 7) 0 → getD (d .condvars .«cv_waiters») c blankQueue .len < 32
     go true q e = let k = ltb-true (length (queueOf (tables d) c)) 32 q in omega (arith, queue-length d c v h)
     go false q e = absurd (omega arith)

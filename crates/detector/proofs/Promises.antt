@@ -9,25 +9,25 @@ use lib.Seq.{set-getD, getD-set-same}
 use lib.Dec.{lit<, lit≤}
 use borrow.Author.Tests.{eq-eqb}
 use Rattle.waits.specs.Tables.{InRange, waitersOf, ownerOf, writerOf, own, write}
-use Rattle.waits.specs.Report.{Said, written}
+use Rattle.waits.specs.Report.{Judging, written}
 use Rattle.waits.specs.Attempt.{settle}
-use Rattle.waits.specs.Promises.{Tells}
+use Rattle.waits.specs.Promises.{Judges}
 use Rattle.waits.specs.declared.tables.Waits.{Waits}
-use Rattle.waits.specs.declared.tables.Told.{Told}
+use Rattle.waits.specs.declared.tables.Judged.{Judged}
 use Rattle.waits.specs.declared.outcome.Outcome.{Outcome}
 use Rattle.waits.specs.declared.outcome.Outcome.the-variants.{Took, Blocked, Hinted}
-use Rattle.waits.proofs.Telling.{retell, hush-tells, laid-none, laid-length, settle-idle}
-use Rattle.detector.specs.Tables.{Tables, Answer, noPair, noWait, blankWait, withWaits, withCounts, silent, said}
+use Rattle.waits.proofs.Judging.{retell, hush-judges, laid-none, laid-length, settle-idle}
+use Rattle.detector.specs.Tables.{Tables, Effect, noPair, noCvWait, blankCvWait, withWaits, withCounts, silent, withJudging}
 use Rattle.detector.specs.Mutex.{acquireSlow, mutexAttempt}
 use Rattle.detector.specs.RwLock.{countDown, acquireRead, readAttempt, acquireWrite, writeAttempt}
 use Rattle.waits.specs.Owners.{place, countOf}
 use Rattle.detector.specs.Refusals.{fullCount}
-use Rattle.detector.specs.State.{tables, blankQueue, Queued, Waiting, Valid}
+use Rattle.detector.specs.State.{tables, blankQueue, Queued, ValidCvWait, Valid}
 use Rattle.detector.specs.Promises.{Does}
 use Rattle.waits.specs.Tables as waiting
 use Rattle.waits.proofs.Laws.{range-empty}
 use Rattle.detector.specs.declared.state.Queue.{Queue}
-use Rattle.detector.specs.declared.state.Rest.{Rest}
+use Rattle.detector.specs.declared.state.Condvars.{Condvars}
 use Rattle.detector.specs.Code.{emptyQueue, putWaits, putCounts, blocked, hinted}
 use Rattle.detector.specs.declared.state.Detector.{Detector}
 use Rattle.detector.specs.declared.reply.Done.{Done}
@@ -35,21 +35,21 @@ use Rattle.detector.specs.declared.reply.Done.{Done}
 -- ---- the state stays valid where the waits stay in range
 
 valid-waits : (d : Detector) (w : Waits) (n : ℕ) → Valid d → InRange w → Valid (putWaits d w n .detector)
-valid-waits d w n v s = record { waits = s; queues = v .queues; waiting = v .waiting }
+valid-waits d w n v s = record { waits = s; queues = v .queues; cvWaits = v .cvWaits }
 
 valid-counts : (d : Detector) (w : Waits) (c : List ℕ) → Valid d → InRange w → Valid (putCounts d w c .detector)
-valid-counts d w c v s = record { waits = s; queues = v .queues; waiting = v .waiting }
+valid-counts d w c v s = record { waits = s; queues = v .queues; cvWaits = v .cvWaits }
 
 -- ---- promises
 
-pub redo : {r : Done} {b e : List ℕ} {a z : Answer} → a ≡ z → Does r b e a → Does r b e z
+pub redo : {r : Done} {b e : List ℕ} {a z : Effect} → a ≡ z → Does r b e a → Does r b e z
 redo {r} {b} {e} q t = subst (Does r b e) q t
 
 -- what was told is what was said
-pub does-told : (d : Detector) (r : Done) (k : Told) (b e : List ℕ) (a : Said) → r ≡ putWaits d (k .waits) (k .reports) → Valid d → Tells k b e 0 a → Does r b e (said (tables d) a)
-does-told d r k b e a q v t = subst (λ (x : Done). Does x b e (said (tables d) a)) (sym q) told
+pub does-judges : (d : Detector) (r : Done) (k : Judged) (b e : List ℕ) (a : Judging) → r ≡ putWaits d (k .waits) (k .reports) → Valid d → Judges k b e 0 a → Does r b e (withJudging (tables d) a)
+does-judges d r k b e a q v t = subst (λ (x : Done). Does x b e (withJudging (tables d) a)) (sym q) told
   where
-    told : Does (putWaits d (k .waits) (k .reports)) b e (said (tables d) a)
+    told : Does (putWaits d (k .waits) (k .reports)) b e (withJudging (tables d) a)
     told =
         record {
           state = ap (withWaits (tables d)) (t .waits);
@@ -72,8 +72,8 @@ does-counts d r w c q v s b =
 
 -- ---- a lock was taken that nobody awaits: nothing to tell
 
-pub idle-tells : (c : List ℕ) (w : Waits) (l : ℕ) (r : Told) (b : List ℕ) → r ≡ record { waits = w; reports = 0; used = 0 } → InRange w → waitersOf w l ≡ 0 → Tells r b b 0 (settle c w l)
-idle-tells c w l r b e s z = retell (sym (settle-idle c w l z)) (hush-tells r w 0 b e s)
+pub idle-judges : (c : List ℕ) (w : Waits) (l : ℕ) (r : Judged) (b : List ℕ) → r ≡ record { waits = w; reports = 0; used = 0 } → InRange w → waitersOf w l ≡ 0 → Judges r b b 0 (settle c w l)
+idle-judges c w l r b e s z = retell (sym (settle-idle c w l z)) (hush-judges r w 0 b e s)
 
 -- ---- the rules by how the try came out
 
@@ -114,8 +114,8 @@ pub count-down-at : (c : List ℕ) (l t : ℕ) → place l t < length c → coun
 unfolding countDown
 count-down-at c l t h = getD-set-same c (place l t) (countOf c l t - 1) 0 h
 
-pub tells-length : {r : Told} {b e : List ℕ} {from : ℕ} {a : Said} → Tells r b e from a → length e ≡ length b
-tells-length {b = b} {from = from} {a = a} t = ap length (t .bytes) ∙ laid-length b from (written (a .reports))
+pub judges-length : {r : Judged} {b e : List ℕ} {from : ℕ} {a : Judging} → Judges r b e from a → length e ≡ length b
+judges-length {b = b} {from = from} {a = a} t = ap length (t .bytes) ∙ laid-length b from (written (a .reports))
 
 -- ---- the empty state is valid
 
@@ -124,8 +124,8 @@ getD-same zero k v d P p q = q
 getD-same (suc n) zero v d P p q = p
 getD-same (suc n) (suc k) v d P p q = getD-same n k v d P p q
 
-abbrev pub newRest : Rest
-newRest = record { «cv_waiters» = replicate 16 emptyQueue; «thread_wait_cv» = replicate 32 noWait }
+abbrev pub newCondvars : Condvars
+newCondvars = record { «cv_waiters» = replicate 16 emptyQueue; «thread_wait_cv» = replicate 32 noCvWait }
 
 queued-empty : Queued emptyQueue
 queued-empty =
@@ -137,12 +137,12 @@ queued-empty =
       behind = λ k h. getD-same 32 k noPair noPair (λ p. p ≡ noPair) refl refl;
     }
 
-pub valid-new : Valid (record { waits = waiting.empty; «cv_woken» = 0; «rwlock_readers» = replicate 2048 0; rest = newRest })
+pub valid-new : Valid (record { waits = waiting.empty; «cv_woken» = 0; «rwlock_readers» = replicate 2048 0; condvars = newCondvars })
 valid-new =
     record {
       waits = range-empty;
       queues = λ c h. subst (λ (q : Queue). Queued q) (sym (getD-replicate 16 c emptyQueue blankQueue h)) queued-empty;
-      waiting = λ t. getD-same 32 t noWait blankWait Waiting
+      cvWaits = λ t. getD-same 32 t noCvWait blankCvWait ValidCvWait
           (record { condvar = lit≤ tt; lock = lit< tt; absent = λ e. refl })
           (record { condvar = lit≤ tt; lock = lit< tt; absent = λ e. refl });
     }

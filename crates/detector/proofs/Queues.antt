@@ -16,14 +16,14 @@ use Rattle.sets.proofs.Tables.{set-all, fold-append}
 use Rattle.waits.specs.Tables.{InRange, ownerOf}
 use Rattle.waits.specs.Report.{Report, written, bytesOf}
 use Rattle.waits.specs.Attempt.{blockMutex}
-use Rattle.waits.specs.Promises.{Tells, laid}
+use Rattle.waits.specs.Promises.{Judges, laid}
 use Rattle.waits.specs.declared.tables.Waits.{Waits}
-use Rattle.waits.specs.declared.tables.Told.{Told}
-use Rattle.waits.proofs.Telling.{laid-none, laid-append}
+use Rattle.waits.specs.declared.tables.Judged.{Judged}
+use Rattle.waits.proofs.Judging.{laid-none, laid-append}
 use Rattle.detector.proofs.Numbers.{queue-at}
-use Rattle.detector.specs.Tables.{noPair, noWait, blankWait, queueOf, withQueue, withWoken}
+use Rattle.detector.specs.Tables.{noPair, noCvWait, blankCvWait, queueOf, withQueue, withWoken}
 use Rattle.detector.specs.Condvar.{condvarAt, forget, Woken, attempted, wake, wakeAll, notify, notifyOne, isPair, leave}
-use Rattle.detector.specs.State.{pairsOf, tables, blankQueue, Queued, Waiting, Valid}
+use Rattle.detector.specs.State.{pairsOf, tables, blankQueue, Queued, ValidCvWait, Valid}
 use Rattle.detector.specs.Promises.{Does, Wakes}
 use Rattle.detector.specs.Code.{emptyQueue, tailOf}
 use Rattle.detector.specs.declared.state.Pair.{Pair}
@@ -136,40 +136,40 @@ leave-none t l ps = refl
 
 -- ---- waits on condvars
 
-pub waiting-none : Waiting noWait
-waiting-none = record { condvar = lit≤ tt; lock = lit< tt; absent = λ e. refl }
+pub cv-wait-none : ValidCvWait noCvWait
+cv-wait-none = record { condvar = lit≤ tt; lock = lit< tt; absent = λ e. refl }
 
-pub waiting-some : (c l : ℕ) → c < 16 → l < 64 → Waiting (record { condvar = c; lock = l })
-waiting-some c l h k = record { condvar = omega arith; lock = k; absent = λ e. absurd (omega arith) }
+pub cv-wait-some : (c l : ℕ) → c < 16 → l < 64 → ValidCvWait (record { condvar = c; lock = l })
+cv-wait-some c l h k = record { condvar = omega arith; lock = k; absent = λ e. absurd (omega arith) }
 
-pub waiting-set : (v : List CvWait) (t : ℕ) (u : CvWait) → Waiting u → ((k : ℕ) → Waiting (getD v k blankWait)) → (k : ℕ) → Waiting (getD (set v t u) k blankWait)
-waiting-set v t u h a = set-all Waiting v t u blankWait h a
+pub cv-wait-set : (v : List CvWait) (t : ℕ) (u : CvWait) → ValidCvWait u → ((k : ℕ) → ValidCvWait (getD v k blankCvWait)) → (k : ℕ) → ValidCvWait (getD (set v t u) k blankCvWait)
+cv-wait-set v t u h a = set-all ValidCvWait v t u blankCvWait h a
 
 -- the waits for c dropped below n
 abbrev pub forgetBelow : List CvWait → ℕ → ℕ → List CvWait
-forgetBelow v c n = each (λ u t. cond (eqb (condvarAt v t) c) (set u t noWait) u) v n
+forgetBelow v c n = each (λ u t. cond (eqb (condvarAt v t) c) (set u t noCvWait) u) v n
 
 pub forget-none : (v : List CvWait) (c : ℕ) → v ≡ forgetBelow v c 0
 forget-none v c = sym (each-none _ v)
 
 module _ (v : List CvWait) (c t : ℕ) where
-  pub forget-more : condvarAt v t ≡ c → set (forgetBelow v c t) t noWait ≡ forgetBelow v c (t + 1)
-  forget-more e = rw (eq-eqb _ _ e) at (each-next (λ u t. cond (eqb (condvarAt v t) c) (set u t noWait) u) v t)
+  pub forget-more : condvarAt v t ≡ c → set (forgetBelow v c t) t noCvWait ≡ forgetBelow v c (t + 1)
+  forget-more e = rw (eq-eqb _ _ e) at (each-next (λ u t. cond (eqb (condvarAt v t) c) (set u t noCvWait) u) v t)
 
   pub forget-same : (condvarAt v t ≡ c → ⊥) → forgetBelow v c t ≡ forgetBelow v c (t + 1)
-  forget-same e = rw (ne-eqb _ _ e) at (each-next (λ u t. cond (eqb (condvarAt v t) c) (set u t noWait) u) v t)
+  forget-same e = rw (ne-eqb _ _ e) at (each-next (λ u t. cond (eqb (condvarAt v t) c) (set u t noCvWait) u) v t)
 
 pub forget-all : (v : List CvWait) (c : ℕ) → forgetBelow v c 32 ≡ forget v c
 unfolding forget
 forget-all v c = refl
 
-pub waiting-forget : (v : List CvWait) (c : ℕ) → ((k : ℕ) → Waiting (getD v k blankWait)) → (k : ℕ) → Waiting (getD (forget v c) k blankWait)
+pub cv-wait-forget : (v : List CvWait) (c : ℕ) → ((k : ℕ) → ValidCvWait (getD v k blankCvWait)) → (k : ℕ) → ValidCvWait (getD (forget v c) k blankCvWait)
 unfolding forget
-waiting-forget v c h =
-    each-keeps (λ (u : List CvWait). (k : ℕ) → Waiting (getD u k blankWait)) _ 32 v (λ u t l a. go u t a (eqb (condvarAt v t) c)) h
+cv-wait-forget v c h =
+    each-keeps (λ (u : List CvWait). (k : ℕ) → ValidCvWait (getD u k blankCvWait)) _ 32 v (λ u t l a. go u t a (eqb (condvarAt v t) c)) h
   where
-    go : (u : List CvWait) (t : ℕ) → ((k : ℕ) → Waiting (getD u k blankWait)) → (b : Bool) → (k : ℕ) → Waiting (getD (cond b (set u t noWait) u) k blankWait)
-    go u t a true = waiting-set u t noWait waiting-none a
+    go : (u : List CvWait) (t : ℕ) → ((k : ℕ) → ValidCvWait (getD u k blankCvWait)) → (b : Bool) → (k : ℕ) → ValidCvWait (getD (cond b (set u t noCvWait) u) k blankCvWait)
+    go u t a true = cv-wait-set u t noCvWait cv-wait-none a
     go u t a false = a
 
 -- ---- waking
@@ -181,8 +181,8 @@ written-append (r ∷ x) y = ap (λ (l : List ℕ). bytesOf r ++ l) (written-app
 
 module _ (c : List ℕ) (p : Pair) (a : Awake) (b m : List ℕ) (s : Woken) (k : Wakes a b m s) (v : ℕ) (x : v ≡ with (a .woken) (p .thread)) where
   -- its lock has an owner: the attempt's reports follow
-  pub wake-more : (d : Told) (e : List ℕ) → ownerOf (a .waits) (p .lock) < 32
-      → Tells d m e (a .used) (blockMutex c (a .waits) (p .thread) (p .lock))
+  pub wake-more : (d : Judged) (e : List ℕ) → ownerOf (a .waits) (p .lock) < 32
+      → Judges d m e (a .used) (blockMutex c (a .waits) (p .thread) (p .lock))
       → Wakes (record { waits = d .waits; woken = v; reports = a .reports + d .reports; used = d .used }) b e (wake c s p)
   unfolding wake attempted
   wake-more d e h t =
@@ -245,33 +245,33 @@ queuedState d c q v w m =
       waits = w;
       «cv_woken» = m;
       «rwlock_readers» = d .«rwlock_readers»;
-      rest = record { «cv_waiters» = set (d .rest .«cv_waiters») c q; «thread_wait_cv» = v };
+      condvars = record { «cv_waiters» = set (d .condvars .«cv_waiters») c q; «thread_wait_cv» = v };
     }
 
 module _ (d : Detector) (c : ℕ) (q : Queue) (l : List Pair) (v : List CvWait) (w : Waits) (m : ℕ) where
-  pub queue-does : Valid d → Queued q → pairsOf q ≡ l → ((t : ℕ) → Waiting (getD v t blankWait)) → InRange w
+  pub queue-does : Valid d → Queued q → pairsOf q ≡ l → ((t : ℕ) → ValidCvWait (getD v t blankCvWait)) → InRange w
       → (n : ℕ) (rs : List Report) (b e : List ℕ) → n ≡ length rs → e ≡ laid b 0 (written rs)
       → Does (record { detector = queuedState d c q v w m; reports = n }) b e
       (record { tables = withWoken (withQueue (tables d) c l v) w m; reports = rs })
   queue-does h u f a i n rs b e k y =
       record {
-        state = rw (map-set pairsOf (d .rest .«cv_waiters») c q, f);
+        state = rw (map-set pairsOf (d .condvars .«cv_waiters») c q, f);
         count = k;
         bytes = y;
         valid = record {
           waits = i;
-          queues = λ j s. put-keeps Queued (d .rest .«cv_waiters») c j q blankQueue u (h .queues j s);
-          waiting = a;
+          queues = λ j s. put-keeps Queued (d .condvars .«cv_waiters») c j q blankQueue u (h .queues j s);
+          cvWaits = a;
         };
       }
 
   -- without a report
-  pub silent-does : Valid d → Queued q → pairsOf q ≡ l → ((t : ℕ) → Waiting (getD v t blankWait)) → InRange w → (b : List ℕ)
+  pub silent-does : Valid d → Queued q → pairsOf q ≡ l → ((t : ℕ) → ValidCvWait (getD v t blankCvWait)) → InRange w → (b : List ℕ)
       → Does (record { detector = queuedState d c q v w m; reports = 0 }) b b (record { tables = withWoken (withQueue (tables d) c l v) w m; reports = [] })
   silent-does h u f a i b = queue-does h u f a i 0 [] b b refl (silent-bytes b)
 
 -- the cells of c's queue hold what it means
-pub held : (d : Detector) (c : ℕ) → Valid d → c < 16 → (let q = getD (d .rest .«cv_waiters») c blankQueue in Holds (q .pairs) (q .len) (queueOf (tables d) c))
+pub held : (d : Detector) (c : ℕ) → Valid d → c < 16 → (let q = getD (d .condvars .«cv_waiters») c blankQueue in Holds (q .pairs) (q .len) (queueOf (tables d) c))
 held d c v h = record { queued = v .queues c h; list = sym (queue-at d c) }
 
 abbrev begun : Detector → Woken
@@ -280,24 +280,24 @@ begun d = record { waits = d .waits; woken = d .«cv_woken»; reports = [] }
 -- the pairs ps were woken, and the queue of c is left with l
 pub notify-does : (d : Detector) (c : ℕ) (q : Queue) (l ps : List Pair) (a : Awake) (b e : List ℕ) → Valid d → Queued q → pairsOf q ≡ l
     → Wakes a b e (wakeAll (d .«rwlock_readers») (begun d) ps)
-    → Does (record { detector = queuedState d c q (d .rest .«thread_wait_cv») (a .waits) (a .woken); reports = a .reports }) b e (notify (tables d) c ps l)
+    → Does (record { detector = queuedState d c q (d .condvars .«thread_wait_cv») (a .waits) (a .woken); reports = a .reports }) b e (notify (tables d) c ps l)
 notify-does d c q l ps a b e h u f k =
     rw (← k .waits, ← k .woken)
-    (queue-does d c q l (d .rest .«thread_wait_cv») (a .waits) (a .woken) h u f (h .waiting) (k .inRange) (a .reports) _ b e (k .count) (k .bytes))
+    (queue-does d c q l (d .condvars .«thread_wait_cv») (a .waits) (a .woken) h u f (h .cvWaits) (k .inRange) (a .reports) _ b e (k .count) (k .bytes))
 
 module _ (d : Detector) (c : ℕ) (h : Valid d) (s : c < 16) where
   -- nobody waits
-  pub nobody-does : getD (d .rest .«cv_waiters») c blankQueue .len ≡ 0 → (b : List ℕ) → Does (record { detector = d; reports = 0 }) b b (notifyOne (tables d) c)
+  pub nobody-does : getD (d .condvars .«cv_waiters») c blankQueue .len ≡ 0 → (b : List ℕ) → Does (record { detector = d; reports = 0 }) b b (notifyOne (tables d) c)
   unfolding notifyOne
   nobody-does e b = rw (queue-at d c, e) (record { state = refl; count = refl; bytes = silent-bytes b; valid = h })
 
   pub first-does : (q : Queue) (a : Awake) (b e : List ℕ)
-      → (let o = getD (d .rest .«cv_waiters») c blankQueue in
+      → (let o = getD (d .condvars .«cv_waiters») c blankQueue in
       (0 < o .len) → Queued q → pairsOf q ≡ tailOf (pairsOf o)
       → Wakes a b e (wake (d .«rwlock_readers») (begun d) (getD (o .pairs) 0 noPair))
-      → Does (record { detector = queuedState d c q (d .rest .«thread_wait_cv») (a .waits) (a .woken); reports = a .reports }) b e (notifyOne (tables d) c))
+      → Does (record { detector = queuedState d c q (d .condvars .«thread_wait_cv») (a .waits) (a .woken); reports = a .reports }) b e (notifyOne (tables d) c))
   unfolding notifyOne
   first-does q a b e n u f k =
-      let o = getD (d .rest .«cv_waiters») c blankQueue in
+      let o = getD (d .condvars .«cv_waiters») c blankQueue in
       rw (queue-at d c, first-of (o .pairs) (o .len) n (omega (arith, h .queues c s .cells)))
       (notify-does d c q (tailOf (pairsOf o)) (getD (o .pairs) 0 noPair ∷ []) a b e h u f (rw (wake-first _ _ _) k))

@@ -38,19 +38,19 @@ module _ (q r : Queue) (v : Queued q) (w : Queued r) (e : pairsOf q ≡ pairsOf 
       (ext-getD noPair (q .pairs) (r .pairs) (v .cells ∙ sym (w .cells)) (λ k h. same-pair k)) same-len
 
 abbrev made : Waits → ℕ → List ℕ → List Queue → List CvWait → Detector
-made w n c q t = record { waits = w; «cv_woken» = n; «rwlock_readers» = c; rest = record { «cv_waiters» = q; «thread_wait_cv» = t } }
+made w n c q t = record { waits = w; «cv_woken» = n; «rwlock_readers» = c; condvars = record { «cv_waiters» = q; «thread_wait_cv» = t } }
 
 -- THEOREM. That there are 16 queues is what the type says.
-pub same-state : (d f : Detector) → Valid d → Valid f → length (d .rest .«cv_waiters») ≡ 16 → length (f .rest .«cv_waiters») ≡ 16
+pub same-state : (d f : Detector) → Valid d → Valid f → length (d .condvars .«cv_waiters») ≡ 16 → length (f .condvars .«cv_waiters») ≡ 16
     → tables d ≡ tables f → d ≡ f
 same-state d f v w m n e =
-    let qs = d .rest .«cv_waiters» in
-    let rs = f .rest .«cv_waiters» in
+    let qs = d .condvars .«cv_waiters» in
+    let rs = f .condvars .«cv_waiters» in
     let c : map pairsOf qs ≡ map pairsOf rs = ap (λ (x : Tables). x .«cv_waiters») e in
     let s : qs ≡ rs =
     ext-getD blankQueue qs rs (m ∙ sym n)
     (λ k h. same-queue (getD qs k blankQueue) (getD rs k blankQueue) (v .queues k (omega arith)) (w .queues k (omega arith))
     (sym (List·getD-map pairsOf qs k blankQueue) ∙ ap (λ (l : List (List Pair)). getD l k []) c ∙ List·getD-map pairsOf rs k blankQueue)) in
-    ap₂ (λ (x : Waits) (y : ℕ). made x y (d .«rwlock_readers») qs (d .rest .«thread_wait_cv»)) (ap (λ (x : Tables). x .waits) e) (ap (λ (x : Tables). x .«cv_woken») e)
-    ∙ ap₂ (λ (x : List ℕ) (y : List Queue). made (f .waits) (f .«cv_woken») x y (d .rest .«thread_wait_cv»)) (ap (λ (x : Tables). x .«rwlock_readers») e) s
+    ap₂ (λ (x : Waits) (y : ℕ). made x y (d .«rwlock_readers») qs (d .condvars .«thread_wait_cv»)) (ap (λ (x : Tables). x .waits) e) (ap (λ (x : Tables). x .«cv_woken») e)
+    ∙ ap₂ (λ (x : List ℕ) (y : List Queue). made (f .waits) (f .«cv_woken») x y (d .condvars .«thread_wait_cv»)) (ap (λ (x : Tables). x .«rwlock_readers») e) s
     ∙ ap (λ (x : List CvWait). made (f .waits) (f .«cv_woken») (f .«rwlock_readers») rs x) (ap (λ (x : Tables). x .«thread_wait_cv») e)

@@ -25,8 +25,8 @@ use Rattle.sets.proofs.Walk.{upward-zero, upward-step, upward-lt, upward-bit, d
 use Rattle.graph.specs.Ways.{Walk, stop, step}
 use Rattle.graph.specs.Search.{row, findPath}
 use Rattle.graph.specs.Graph.{Edge, one}
-use Rattle.graph.specs.Code.{answered}
-use Rattle.graph.specs.declared.path.Answer.the-variants.{Found, Missing}
+use Rattle.graph.specs.Code.{soughtOf}
+use Rattle.graph.specs.declared.path.Way.the-variants.{Found, Missing}
 use Rattle.graph.proofs.Ways.{leads-walk}
 use Rattle.graph.proofs.Paths.{path-found, way-found}
 use Rattle.waits.specs.Tables.{intentOf}
@@ -183,13 +183,13 @@ module _ (rows : List ℕ) (t : ℕ) where
       go false r = r
 
 -- the code's answer
-pub answer-found : (o : Option (List ℕ)) → answered o .answer ≡ Found → true ≡ found o
-answer-found none e = let z : _≡_ {A = ℕ} 0 1 = cc in absurd (omega arith)
-answer-found (some p) e = refl
+pub way-yes : (o : Option (List ℕ)) → soughtOf o .way ≡ Found → true ≡ found o
+way-yes none e = let z : _≡_ {A = ℕ} 0 1 = cc in absurd (omega arith)
+way-yes (some p) e = refl
 
-pub answer-missing : (o : Option (List ℕ)) → answered o .answer ≡ Missing → false ≡ found o
-answer-missing none e = refl
-answer-missing (some p) e = let z : _≡_ {A = ℕ} 0 1 = cc in absurd (omega arith)
+pub way-no : (o : Option (List ℕ)) → soughtOf o .way ≡ Missing → false ≡ found o
+way-no none e = refl
+way-no (some p) e = let z : _≡_ {A = ℕ} 0 1 = cc in absurd (omega arith)
 
 -- a walk over a set
 pub back-some : (rows : List ℕ) (t m : ℕ) → 0 < m → m < 2 ^ 32 → found (findPath rows (lowest 32 m) t) ≡ true → true ≡ anyBack rows t (upward 32 m)

@@ -14,8 +14,8 @@ use Rattle.sets.proofs.Below.{every-at, every-of}
 use Rattle.waits.specs.Tables.{noSlot, InRange, intentOf, lockOf, ownerOf, writerOf}
 use Rattle.waits.specs.declared.tables.Waits.{Waits}
 use Rattle.waits.specs.declared.intent.Slot.{Slot}
-use Rattle.detector.specs.Tables.{noPair, blankWait}
-use Rattle.detector.specs.State.{blankQueue, Queued, Waiting, Valid, rangeTest, placeTest, queueTest, waitTest, validTest}
+use Rattle.detector.specs.Tables.{noPair, blankCvWait}
+use Rattle.detector.specs.State.{blankQueue, Queued, ValidCvWait, Valid, rangeTest, placeTest, queueTest, cvWaitTest, validTest}
 use Rattle.detector.specs.declared.state.Pair.{Pair}
 use Rattle.detector.specs.declared.state.Queue.{Queue}
 use Rattle.detector.specs.declared.state.CvWait.{CvWait}
@@ -119,17 +119,17 @@ module _ (q : Queue) where
 -- ---- a wait on a condvar
 
 module _ (v : CvWait) where
-  wait-tested : Waiting v → waitTest v ≡ true
-  wait-tested h = go (ℕ-discrete (v .condvar) 16)
+  cv-wait-tested : ValidCvWait v → cvWaitTest v ≡ true
+  cv-wait-tested h = go (ℕ-discrete (v .condvar) 16)
     where
-      go : Dec (v .condvar ≡ 16) → waitTest v ≡ true
+      go : Dec (v .condvar ≡ 16) → cvWaitTest v ≡ true
       go (yes e) = rw (eq-eqb _ _ e, eq-eqb _ _ (h .absent e))
       go (no n) = let c = h .condvar in rw (ne-eqb _ _ n, lt-ltb (v .condvar) 16 (omega arith), lt-ltb _ _ (h .lock))
 
-  tested-wait : waitTest v ≡ true → Waiting v
-  tested-wait e = go (ℕ-discrete (v .condvar) 16)
+  tested-cv-wait : cvWaitTest v ≡ true → ValidCvWait v
+  tested-cv-wait e = go (ℕ-discrete (v .condvar) 16)
     where
-      go : Dec (v .condvar ≡ 16) → Waiting v
+      go : Dec (v .condvar ≡ 16) → ValidCvWait v
       go (yes i) =
           let l : v .lock ≡ 0 = eqb-true _ _ (rw (eq-eqb _ _ i) at e) in
           record { condvar = omega arith; lock = omega arith; absent = λ z. l }
@@ -145,27 +145,27 @@ pub record Shaped (d : Detector) : Type 0 where
   pub intents : length (d .waits .«thread_waits_for») ≡ 32
   pub owners : length (d .waits .«mutex_owners») ≡ 64
   pub writers : length (d .waits .«rwlock_writer») ≡ 64
-  pub waiting : length (d .rest .«thread_wait_cv») ≡ 32
-  pub cells : (c : ℕ) → c < 16 → length (getD (d .rest .«cv_waiters») c blankQueue .pairs) ≡ 32
+  pub cvWaits : length (d .condvars .«thread_wait_cv») ≡ 32
+  pub cells : (c : ℕ) → c < 16 → length (getD (d .condvars .«cv_waiters») c blankQueue .pairs) ≡ 32
 
 module _ (d : Detector) where
   pub valid-tested : Valid d → validTest d ≡ true
   unfolding validTest
   valid-tested v =
-      rw (range-tested (d .waits) (v .waits), every-of (λ c. queueTest (getD (d .rest .«cv_waiters») c blankQueue)) 16 (λ c h. queue-tested _ (v .queues c h)))
-      (every-of _ 32 (λ t h. wait-tested _ (v .waiting t)))
+      rw (range-tested (d .waits) (v .waits), every-of (λ c. queueTest (getD (d .condvars .«cv_waiters») c blankQueue)) 16 (λ c h. queue-tested _ (v .queues c h)))
+      (every-of _ 32 (λ t h. cv-wait-tested _ (v .cvWaits t)))
 
   pub tested-valid : Shaped d → validTest d ≡ true → Valid d
   unfolding validTest
   tested-valid s e =
       let p = both (rangeTest (d .waits)) _ e in
-      let q = both (every (λ c. queueTest (getD (d .rest .«cv_waiters») c blankQueue)) 16) (every (λ t. waitTest (getD (d .rest .«thread_wait_cv») t blankWait)) 32) (p .1) in
+      let q = both (every (λ c. queueTest (getD (d .condvars .«cv_waiters») c blankQueue)) 16) (every (λ t. cvWaitTest (getD (d .condvars .«thread_wait_cv») t blankCvWait)) 32) (p .1) in
       record {
         waits = tested-range (d .waits) (s .intents) (s .owners) (s .writers) (p .0);
-        queues = λ c h. tested-queue _ (s .cells c h) (every-at (λ c. queueTest (getD (d .rest .«cv_waiters») c blankQueue)) 16 (q .0) c h);
-        waiting = everywhere Waiting (d .rest .«thread_wait_cv») blankWait 32 (s .waiting)
+        queues = λ c h. tested-queue _ (s .cells c h) (every-at (λ c. queueTest (getD (d .condvars .«cv_waiters») c blankQueue)) 16 (q .0) c h);
+        cvWaits = everywhere ValidCvWait (d .condvars .«thread_wait_cv») blankCvWait 32 (s .cvWaits)
             (record { condvar = lit≤ tt; lock = lit< tt; absent = λ z. refl })
-            (λ t h. tested-wait _ (every-at (λ t. waitTest (getD (d .rest .«thread_wait_cv») t blankWait)) 32 (q .1) t h));
+            (λ t h. tested-cv-wait _ (every-at (λ t. cvWaitTest (getD (d .condvars .«thread_wait_cv») t blankCvWait)) 32 (q .1) t h));
       }
 
 -- the length of a field that is an array of structs, from what is known of its list

@@ -3,10 +3,10 @@ use mathlib.Core.List.{List}
 use Prim.Native.Nat.{ℕ, _<_, _≤_}
 use lib.ListN.{length}
 use Rattle.waits.specs.Report.{Report, written}
-use Rattle.detector.specs.Refusals.{reportRoom}
+use Rattle.detector.specs.Refusals.{bufferBytes}
 use Rattle.detector.specs.Tables.{Tables, queueOf}
 use Rattle.detector.specs.State.{tables, Valid}
-use Rattle.detector.specs.Effects.{answer}
+use Rattle.detector.specs.Effects.{effect}
 use Rattle.detector.specs.declared.event.Event.{Event}
 use Rattle.detector.specs.declared.event.Event.the-variants.{MutexAttempt, MutexAcquired, MutexReleased, MutexExit, RwReadAttempt, RwReadAcquired, RwReadTry, RwReadReleased, RwWriteAttempt, RwWriteAcquired, RwWriteReleased, RwExit, CondvarSpawn, CondvarExit, CondvarWaitBegin, CondvarNotifyOne, CondvarNotifyAll, CondvarWaitEnd}
 use Rattle.detector.specs.declared.state.Detector.{Detector}
@@ -35,14 +35,14 @@ most (CondvarWaitEnd t c l) = 0
 -- so few reports, and 2,080 bytes always suffice
 pub record Brief (e : Event) (rs : List Report) : Type 0 where
   pub few : length rs ≤ most e
-  pub room : length (written rs) ≤ reportRoom
+  pub room : length (written rs) ≤ bufferBytes
 
 -- THE THEOREMS (`all-brief`, `valid-brief`): wherever no queue is longer than 32, so in every valid state of the code
 abbrev pub ShortQueues : Tables → Type 0
 ShortQueues x = (c : ℕ) → c < 16 → length (queueOf x c) ≤ 32
 
 abbrev pub AllBrief : Type 0
-AllBrief = (x : Tables) (room : ℕ) (e : Event) → ShortQueues x → Brief e (answer x room e .reports)
+AllBrief = (x : Tables) (room : ℕ) (e : Event) → ShortQueues x → Brief e (effect x room e .reports)
 
 abbrev pub ValidBrief : Type 0
-ValidBrief = (d : Detector) (room : ℕ) (e : Event) → Valid d → Brief e (answer (tables d) room e .reports)
+ValidBrief = (d : Detector) (room : ℕ) (e : Event) → Valid d → Brief e (effect (tables d) room e .reports)

@@ -11,16 +11,16 @@ use Rattle.detector.specs.declared.state.Pair.{Pair}
 use Rattle.detector.specs.declared.state.Queue.{Queue}
 use Rattle.detector.specs.declared.state.Detector.{Detector}
 use Rattle.detector.specs.declared.reply.Done.{Done}
-use Rattle.detector.specs.declared.reply.Answered.{Answered}
+use Rattle.detector.specs.declared.reply.Stepped.{Stepped}
 use Rattle.detector.specs.declared.reply.Reply.the-variants.{Reports}
 
 -- the state with other waits; with other waits and counts
 abbrev pub putWaits : Detector → Waits → ℕ → Done
 putWaits d w n =
-    record { detector = record { waits = w; «cv_woken» = d .«cv_woken»; «rwlock_readers» = d .«rwlock_readers»; rest = d .rest }; reports = n }
+    record { detector = record { waits = w; «cv_woken» = d .«cv_woken»; «rwlock_readers» = d .«rwlock_readers»; condvars = d .condvars }; reports = n }
 
 abbrev pub putCounts : Detector → Waits → List ℕ → Done
-putCounts d w c = record { detector = record { waits = w; «cv_woken» = d .«cv_woken»; «rwlock_readers» = c; rest = d .rest }; reports = 0 }
+putCounts d w c = record { detector = record { waits = w; «cv_woken» = d .«cv_woken»; «rwlock_readers» = c; condvars = d .condvars }; reports = 0 }
 
 abbrev pub emptyQueue : Queue
 emptyQueue = record { pairs = replicate 32 noPair; len = 0 }
@@ -41,5 +41,5 @@ hinted b Blocked = b
 hinted b (Hinted o) = o
 
 -- an event's result as a step answers it
-abbrev pub served : Done → Answered
+abbrev pub served : Done → Stepped
 served d = record { detector = d .detector; reply = Reports (d .reports) }

@@ -1,12 +1,12 @@
 -- Every word and its rule.
-use Rattle.detector.specs.Tables.{Tables, Answer}
+use Rattle.detector.specs.Tables.{Tables, Effect}
 use Rattle.detector.specs.Mutex.{mutexAttempt, completeAcquire, releaseMutex, destroyMutex}
 use Rattle.detector.specs.RwLock.{readAttempt, completeRead, readTry, releaseRead, writeAttempt, completeWrite, releaseWrite, destroyRwLock}
 use Rattle.detector.specs.Condvar.{createCondvar, destroyCondvar, beginWait, notifyOne, notifyAll, endWait}
 use Rattle.detector.specs.declared.event.Event.{Event}
 use Rattle.detector.specs.declared.event.Event.the-variants.{MutexAttempt, MutexAcquired, MutexReleased, MutexExit, RwReadAttempt, RwReadAcquired, RwReadTry, RwReadReleased, RwWriteAttempt, RwWriteAcquired, RwWriteReleased, RwExit, CondvarSpawn, CondvarExit, CondvarWaitBegin, CondvarNotifyOne, CondvarNotifyAll, CondvarWaitEnd}
 
-abbrev pub apply : Event → Tables → Answer
+abbrev pub apply : Event → Tables → Effect
 -- ma mc mr md
 apply (MutexAttempt t l o) x = mutexAttempt x t l o
 apply (MutexAcquired t l) x = completeAcquire x t l

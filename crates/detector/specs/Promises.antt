@@ -7,7 +7,7 @@ use lib.ListN.{length}
 use Rattle.waits.specs.Tables.{InRange}
 use Rattle.waits.specs.Report.{written}
 use Rattle.waits.specs.Promises.{laid}
-use Rattle.detector.specs.Tables.{Answer}
+use Rattle.detector.specs.Tables.{Effect}
 use Rattle.detector.specs.Events.{apply}
 use Rattle.detector.specs.Refusals.{refusal}
 use Rattle.detector.specs.Condvar.{Woken}
@@ -17,7 +17,7 @@ use Rattle.detector.specs.declared.event.Event.{Event}
 use Rattle.detector.specs.declared.state.Detector.{Detector}
 use Rattle.detector.specs.declared.condvar.Awake.{Awake}
 use Rattle.detector.specs.declared.reply.Done.{Done}
-use Rattle.detector.specs.declared.reply.Answered.{Answered}
+use Rattle.detector.specs.declared.reply.Stepped.{Stepped}
 use Rattle.detector.specs.declared.reply.Count.{Count}
 use Rattle.detector.specs.declared.reply.Count.the-variants as count
 use Rattle.detector.specs.declared.reply.Count.the-variants.{Threads}
@@ -26,7 +26,7 @@ use Rattle.detector.specs.declared.reply.Reply.the-variants.{Reports, Re
 
 -- AN EVENT'S PROMISE: the state means the rule's tables and stays valid; the number of reports; every byte of the
 -- buffer, b before and e after
-pub record Does (r : Done) (b e : List ℕ) (a : Answer) : Type 0 where
+pub record Does (r : Done) (b e : List ℕ) (a : Effect) : Type 0 where
   pub state : tables (r .detector) ≡ a .tables
   pub count : r .reports ≡ length (a .reports)
   pub bytes : e ≡ laid b 0 (written (a .reports))
@@ -60,12 +60,12 @@ reportsOf (Refused k) = 0
 
 -- what an answer with refusal number n says: a refusal gives its number and the same state and writes nothing; an
 -- accepted event is served by its rule
-pub record Answers (n : ℕ) (d : Detector) (ev : Event) (r : Answered) (b e : List ℕ) : Type 0 where
+pub record Replies (n : ℕ) (d : Detector) (ev : Event) (r : Stepped) (b e : List ℕ) : Type 0 where
   pub refused : (0 < n) → (r ≡ record { detector = d; reply = Refused n }) × (e ≡ b)
   pub served : (n ≡ 0)
       → (r .reply ≡ Reports (length (apply ev (tables d) .reports)))
       × Does (record { detector = r .detector; reports = length (apply ev (tables d) .reports) }) b e (apply ev (tables d))
 
 -- A STEP'S PROMISE, for any state, any event and any buffer
-abbrev pub Steps : Detector → Event → Answered → List ℕ → List ℕ → Type 0
-Steps d ev r b e = Answers (refusalOf d (length b) ev) d ev r b e
+abbrev pub Steps : Detector → Event → Stepped → List ℕ → List ℕ → Type 0
+Steps d ev r b e = Replies (refusalOf d (length b) ev) d ev r b e

@@ -49,8 +49,8 @@ numbersOf (CondvarNotifyAll c) = numbers 0 0 0 c
 numbersOf (CondvarWaitEnd t c l) = numbers t 0 l c
 
 -- 2,080: room for 32 reports
-abbrev pub reportRoom : ℕ
-reportRoom = 32 * reportBytes
+abbrev pub bufferBytes : ℕ
+bufferBytes = 32 * reportBytes
 
 -- 3 thread or hint above 31; 4 lock above 63; 5 condvar above 15; 6 report buffer below 2,080 bytes; else the next
 unfoldable pub outside : Numbers → ℕ → ℕ → ℕ
@@ -59,7 +59,7 @@ outside n room next =
     (cond (ltb 31 (n .hint)) 3
     (cond (ltb 63 (n .lock)) 4
     (cond (ltb 15 (n .condvar)) 5
-    (cond (ltb room reportRoom) 6 next))))
+    (cond (ltb room bufferBytes) 6 next))))
 
 -- 7 cb on a queue of 32; 8 ra, rc or rt taken at count 255
 abbrev pub fullQueue : Tables → ℕ → ℕ
@@ -106,4 +106,4 @@ pub record Inside (n : Numbers) (size : ℕ) : Type 0 where
   pub hint : n .hint < 32
   pub lock : n .lock < 64
   pub condvar : n .condvar < 16
-  pub room : reportRoom ≤ size
+  pub room : bufferBytes ≤ size

@@ -16,7 +16,7 @@ use Rattle.waits.specs.declared.outcome.Outcome.{Outcome}
 use Rattle.waits.specs.declared.outcome.Outcome.the-variants.{Took, Blocked, Hinted}
 use Rattle.waits.specs.declared.outcome.Tried.{Tried}
 use Rattle.waits.specs.declared.outcome.Tried.the-variants.{Taken, Missed}
-use Rattle.detector.specs.Tables.{Tables, Answer, withWaits, withCounts, silent, said}
+use Rattle.detector.specs.Tables.{Tables, Effect, withWaits, withCounts, silent, withJudging}
 use Rattle.detector.specs.Mutex.{gain, purge}
 
 -- the counts with n for lock l and thread t
@@ -30,23 +30,23 @@ unfoldable pub countDown : List ℕ → ℕ → ℕ → List ℕ
 countDown c l t = setCount c l t (countOf c l t - 1)
 
 -- rc t l: count + 1; clear t; no refresh
-unfoldable pub completeRead : Tables → ℕ → ℕ → Answer
+unfoldable pub completeRead : Tables → ℕ → ℕ → Effect
 completeRead x t l = silent (withCounts x (clear (x .waits) t) (countUp (x .«rwlock_readers») l t))
 
 -- ra t l o: took: as rc. Blocked: a hint becomes writer; register RwRead; validate, no filter
-unfoldable pub acquireRead : Tables → Waits → ℕ → ℕ → Answer
-acquireRead x w t l = said x (block (x .«rwlock_readers») w t (readOn l))
+unfoldable pub acquireRead : Tables → Waits → ℕ → ℕ → Effect
+acquireRead x w t l = withJudging x (block (x .«rwlock_readers») w t (readOn l))
 
-abbrev pub readAttempt : Tables → ℕ → ℕ → Outcome → Answer
+abbrev pub readAttempt : Tables → ℕ → ℕ → Outcome → Effect
 readAttempt x t l Took = completeRead x t l
 readAttempt x t l Blocked = acquireRead x (x .waits) t l
 readAttempt x t l (Hinted o) = acquireRead x (write (x .waits) l o) t l
 
 -- rt t l o: took: count + 1; refresh l, path dropped; t's intent stays. Blocked: nothing
-unfoldable pub tryRead : Tables → ℕ → ℕ → Answer
+unfoldable pub tryRead : Tables → ℕ → ℕ → Effect
 tryRead x t l = let c = countUp (x .«rwlock_readers») l t in silent (withCounts x (refresh c (x .waits) l .waits) c)
 
-abbrev pub readTry : Tables → ℕ → ℕ → Tried → Answer
+abbrev pub readTry : Tables → ℕ → ℕ → Tried → Effect
 readTry x t l Taken = tryRead x t l
 readTry x t l Missed = silent x
 
@@ -55,7 +55,7 @@ unfoldable pub loosen : Waits → ℕ → ℕ → Waits
 loosen w t l = withGraph w (removeEdgesTo t (w .«wait_for_graph») (upward 32 (waitersOf w l)))
 
 -- rr t l: count - 1 if above 0; if 0 now or before, drop edges from l's waiters to t
-unfoldable pub releaseRead : Tables → ℕ → ℕ → Answer
+unfoldable pub releaseRead : Tables → ℕ → ℕ → Effect
 releaseRead x t l =
     let c = x .«rwlock_readers» in
     silent (withCounts x (cond (eqb (countOf c l t - 1) 0) (loosen (x .waits) t l) (x .waits)) (countDown c l t))
@@ -64,15 +64,15 @@ releaseRead x t l =
 unfoldable pub writeAcquired : Waits → ℕ → ℕ → Waits
 writeAcquired w t l = gain (write w l t) t l
 
-unfoldable pub completeWrite : Tables → ℕ → ℕ → Answer
-completeWrite x t l = said x (settle (x .«rwlock_readers») (writeAcquired (x .waits) t l) l)
+unfoldable pub completeWrite : Tables → ℕ → ℕ → Effect
+completeWrite x t l = withJudging x (settle (x .«rwlock_readers») (writeAcquired (x .waits) t l) l)
 
 -- wa t l o: took: as wc. Blocked: a hint becomes writer; with a reader or writer register RwWrite and validate, no
 -- filter; with neither, nothing, t's old intent stays
-unfoldable pub acquireWrite : Tables → Waits → ℕ → ℕ → Answer
-acquireWrite x w t l = said x (blockWrite (x .«rwlock_readers») w t l)
+unfoldable pub acquireWrite : Tables → Waits → ℕ → ℕ → Effect
+acquireWrite x w t l = withJudging x (blockWrite (x .«rwlock_readers») w t l)
 
-abbrev pub writeAttempt : Tables → ℕ → ℕ → Outcome → Answer
+abbrev pub writeAttempt : Tables → ℕ → ℕ → Outcome → Effect
 writeAttempt x t l Took = completeWrite x t l
 writeAttempt x t l Blocked = acquireWrite x (x .waits) t l
 writeAttempt x t l (Hinted o) = acquireWrite x (write (x .waits) l o) t l
@@ -81,12 +81,12 @@ writeAttempt x t l (Hinted o) = acquireWrite x (write (x .waits) l o) t l
 unfoldable pub writeReleased : Waits → ℕ → ℕ → Waits
 writeReleased w t l = unhold (cond (eqb (writerOf w l) t) (write w l 32) w) t l
 
-unfoldable pub releaseWrite : Tables → ℕ → ℕ → Answer
+unfoldable pub releaseWrite : Tables → ℕ → ℕ → Effect
 releaseWrite x t l = silent (withWaits x (loosen (writeReleased (x .waits) t l) t l))
 
 -- rd l: no writer, no readers, out of all holds, no waiters; intents and edges stay
 unfoldable pub noReaders : List ℕ → ℕ → List ℕ
 noReaders c l = each (λ d t. setCount d l t 0) c 32
 
-unfoldable pub destroyRwLock : Tables → ℕ → Answer
+unfoldable pub destroyRwLock : Tables → ℕ → Effect
 destroyRwLock x l = silent (withCounts x (purge (write (x .waits) l 32) l) (noReaders (x .«rwlock_readers») l))

@@ -8,7 +8,7 @@ use lib.ListN.{getD, length, take}
 use Rattle.sets.specs.Below.{every}
 use Rattle.waits.specs.Tables.{InRange, intentOf, lockOf, ownerOf, writerOf}
 use Rattle.waits.specs.declared.tables.Waits.{Waits}
-use Rattle.detector.specs.Tables.{Tables, noPair, blankWait}
+use Rattle.detector.specs.Tables.{Tables, noPair, blankCvWait}
 use Rattle.detector.specs.declared.state.Detector.{Detector}
 use Rattle.detector.specs.declared.state.Queue.{Queue}
 use Rattle.detector.specs.declared.state.Pair.{Pair}
@@ -23,8 +23,8 @@ tables d =
     record {
       waits = d .waits;
       «rwlock_readers» = d .«rwlock_readers»;
-      «cv_waiters» = map pairsOf (d .rest .«cv_waiters»);
-      «thread_wait_cv» = d .rest .«thread_wait_cv»;
+      «cv_waiters» = map pairsOf (d .condvars .«cv_waiters»);
+      «thread_wait_cv» = d .condvars .«thread_wait_cv»;
       «cv_woken» = d .«cv_woken»;
     }
 
@@ -39,15 +39,15 @@ pub record Queued (q : Queue) : Type 0 where
   pub locks : (k : ℕ) → getD (q .pairs) k noPair .lock < 64
   pub behind : (k : ℕ) → q .len ≤ k → getD (q .pairs) k noPair ≡ noPair
 
-pub record Waiting (v : CvWait) : Type 0 where
+pub record ValidCvWait (v : CvWait) : Type 0 where
   pub condvar : v .condvar ≤ 16
   pub lock : v .lock < 64
   pub absent : v .condvar ≡ 16 → v .lock ≡ 0
 
 pub record Valid (d : Detector) : Type 0 where
   pub waits : InRange (d .waits)
-  pub queues : (c : ℕ) → c < 16 → Queued (getD (d .rest .«cv_waiters») c blankQueue)
-  pub waiting : (t : ℕ) → Waiting (getD (d .rest .«thread_wait_cv») t blankWait)
+  pub queues : (c : ℕ) → c < 16 → Queued (getD (d .condvars .«cv_waiters») c blankQueue)
+  pub cvWaits : (t : ℕ) → ValidCvWait (getD (d .condvars .«thread_wait_cv») t blankCvWait)
 
 -- the same as a test: refusal 2 is given exactly when it fails
 unfoldable pub rangeTest : Waits → Bool
@@ -66,12 +66,12 @@ placeTest n k p =
 unfoldable pub queueTest : Queue → Bool
 queueTest q = cond (ltb (q .len) 33) (every (λ k. placeTest (q .len) k (getD (q .pairs) k noPair)) 32) false
 
-abbrev pub waitTest : CvWait → Bool
-waitTest v = cond (eqb (v .condvar) 16) (eqb (v .lock) 0) (cond (ltb (v .condvar) 16) (ltb (v .lock) 64) false)
+abbrev pub cvWaitTest : CvWait → Bool
+cvWaitTest v = cond (eqb (v .condvar) 16) (eqb (v .lock) 0) (cond (ltb (v .condvar) 16) (ltb (v .lock) 64) false)
 
 unfoldable pub validTest : Detector → Bool
 validTest d =
     cond (rangeTest (d .waits))
-    (cond (every (λ c. queueTest (getD (d .rest .«cv_waiters») c blankQueue)) 16)
-    (every (λ t. waitTest (getD (d .rest .«thread_wait_cv») t blankWait)) 32) false)
+    (cond (every (λ c. queueTest (getD (d .condvars .«cv_waiters») c blankQueue)) 16)
+    (every (λ t. cvWaitTest (getD (d .condvars .«thread_wait_cv») t blankCvWait)) 32) false)
     false

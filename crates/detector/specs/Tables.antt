@@ -3,7 +3,7 @@ use mathlib.Core.List.{List, []}
 use Prim.Native.Nat.{ℕ}
 use lib.ListN.{getD, set, replicate}
 use Rattle.waits.specs.Tables as waiting
-use Rattle.waits.specs.Report.{Report, Said}
+use Rattle.waits.specs.Report.{Report, Judging}
 use Rattle.waits.specs.declared.tables.Waits.{Waits}
 use Rattle.detector.specs.declared.state.Pair.{Pair}
 use Rattle.detector.specs.declared.state.CvWait.{CvWait}
@@ -19,12 +19,12 @@ pub record Tables : Type 0 where
 abbrev pub noPair : Pair
 noPair = record { thread = 0; lock = 0 }
 
-abbrev pub noWait : CvWait
-noWait = record { condvar = 16; lock = 0 }
+abbrev pub noCvWait : CvWait
+noCvWait = record { condvar = 16; lock = 0 }
 
 -- what a read outside the table would give
-abbrev pub blankWait : CvWait
-blankWait = record { condvar = 0; lock = 0 }
+abbrev pub blankCvWait : CvWait
+blankCvWait = record { condvar = 0; lock = 0 }
 
 -- nothing present anywhere
 abbrev pub empty : Tables
@@ -33,7 +33,7 @@ empty =
       waits = waiting.empty;
       «rwlock_readers» = replicate 2048 0;
       «cv_waiters» = replicate 16 [];
-      «thread_wait_cv» = replicate 32 noWait;
+      «thread_wait_cv» = replicate 32 noCvWait;
       «cv_woken» = 0;
     }
 
@@ -85,12 +85,12 @@ withWoken x w m =
     }
 
 -- AN ANSWER: the tables after the event, and its reports in order, each with the tables of its last validation
-pub record Answer : Type 0 where
+pub record Effect : Type 0 where
   pub tables : Tables
   pub reports : List Report
 
-abbrev pub silent : Tables → Answer
+abbrev pub silent : Tables → Effect
 silent x = record { tables = x; reports = [] }
 
-abbrev pub said : Tables → Said → Answer
-said x a = record { tables = withWaits x (a .waits); reports = a .reports }
+abbrev pub withJudging : Tables → Judging → Effect
+withJudging x a = record { tables = withWaits x (a .waits); reports = a .reports }

@@ -5,7 +5,7 @@ use mathlib.Core.List.{List}
 use Prim.Native.Nat.{ℕ, _<_, _^_}
 use lib.ListN.{getD, length}
 use Rattle.waits.specs.Tables.{intentOf, lockOf}
-use Rattle.detector.specs.Tables.{noPair, blankWait}
+use Rattle.detector.specs.Tables.{noPair, blankCvWait}
 use Rattle.detector.specs.State.{blankQueue}
 use Rattle.detector.specs.declared.state.Detector.{Detector}
 use Rattle.detector.specs.declared.state.Queue.{Queue}
@@ -17,14 +17,14 @@ pub record Table (l : List ℕ) (n max : ℕ) : Type 0 where
   pub small : (i : ℕ) → getD l i 0 < max
 
 -- 32 pairs of bytes, and a byte
-pub record Places (q : Queue) : Type 0 where
+pub record TypedQueue (q : Queue) : Type 0 where
   pub long : length (q .pairs) ≡ 32
   pub threads : (k : ℕ) → getD (q .pairs) k noPair .thread < 256
   pub locks : (k : ℕ) → getD (q .pairs) k noPair .lock < 256
   pub len : q .len < 256
 
 -- two bytes
-pub record Wait (v : CvWait) : Type 0 where
+pub record TypedCvWait (v : CvWait) : Type 0 where
   pub condvar : v .condvar < 256
   pub lock : v .lock < 256
 
@@ -39,7 +39,7 @@ pub record Typed (d : Detector) : Type 0 where
   pub writers : Table (d .waits .«rwlock_writer») 64 256
   pub woken : d .«cv_woken» < 2 ^ 32
   pub readers : Table (d .«rwlock_readers») 2048 256
-  pub queues : length (d .rest .«cv_waiters») ≡ 16
-  pub places : (c : ℕ) → c < 16 → Places (getD (d .rest .«cv_waiters») c blankQueue)
-  pub sleepers : length (d .rest .«thread_wait_cv») ≡ 32
-  pub waits : (t : ℕ) → Wait (getD (d .rest .«thread_wait_cv») t blankWait)
+  pub queues : length (d .condvars .«cv_waiters») ≡ 16
+  pub places : (c : ℕ) → c < 16 → TypedQueue (getD (d .condvars .«cv_waiters») c blankQueue)
+  pub cvPlaces : length (d .condvars .«thread_wait_cv») ≡ 32
+  pub cvWaits : (t : ℕ) → TypedCvWait (getD (d .condvars .«thread_wait_cv») t blankCvWait)

@@ -6,7 +6,7 @@ ghost use lib.ListN.{length, getD};
 ghost use Rattle.waits.specs.Tables.{InRange};
 ghost use Rattle.waits.specs.Report.{reportBytes};
 ghost use Rattle.detector.specs.Condvar.{Woken, isPair, wake, wakeAll, forget, leave, createCondvar, destroyCondvar, beginWait, notifyOne, notifyAll, endWait};
-ghost use Rattle.detector.specs.Refusals.{reportRoom};
+ghost use Rattle.detector.specs.Refusals.{bufferBytes};
 ghost use Rattle.detector.specs.State.{pairsOf, tables, blankQueue, Queued, Valid};
 ghost use Rattle.detector.specs.Promises.{Does, Wakes};
 ghost use Rattle.detector.specs.Code.{tailOf, emptyQueue};
@@ -66,7 +66,7 @@ fn wake_one(a: Awake, counts: &[u8; 2048], p: Pair, buf: &mut [u8]) -> Awake
 }
 
 fn wake_all(a0: Awake, counts: &[u8; 2048], q: Queue, buf: &mut [u8]) -> Awake
-    requires { ⌜ InRange (a0 .waits) × Queued q × (a0 .used ≡ 0) × (a0 .reports ≡ 0) × (reportRoom ≤ length (now buf)) ⌝ }
+    requires { ⌜ InRange (a0 .waits) × Queued q × (a0 .used ≡ 0) × (a0 .reports ≡ 0) × (bufferBytes ≤ length (now buf)) ⌝ }
     ensures { λ r. ⌜ ((s : Woken) → Wakes a0 (now (buf .entry)) (now (buf .entry)) s → Wakes r (now (buf .entry)) (now (buf .exit)) (wakeAll (now (counts .entry)) s (pairsOf q))) ⌝ }
 {
     let n = q.len as usize;
@@ -129,13 +129,13 @@ fn is_pair(p: Pair, t: usize, l: usize) -> bool
 }
 
 // No thread waits for c.
-fn forgotten(waiting: [CvWait; 32], c: usize) -> [CvWait; 32]
-    ensures { λ r. ⌜ r ≡ forget waiting c ⌝ }
+fn forgotten(all: [CvWait; 32], c: usize) -> [CvWait; 32]
+    ensures { λ r. ⌜ r ≡ forget all c ⌝ }
 {
-    let mut out = waiting;
+    let mut out = all;
     let mut t = 0;
     while t < 32 {
-        let v = waiting[t];
+        let v = all[t];
         if v.condvar as usize == c {
             out[t] = CvWait {
                 condvar: 16,
@@ -153,9 +153,9 @@ impl Detector {
         requires { ⌜ Valid self × (c < 16) ⌝ }
         ensures { λ r. ⌜ ((b : List ℕ) → Does r b b (createCondvar (tables self) c)) ⌝ }
     {
-        let mut rest = self.rest;
-        rest.cv_waiters[c] = empty_queue();
-        self.rest = rest;
+        let mut condvars = self.condvars;
+        condvars.cv_waiters[c] = empty_queue();
+        self.condvars = condvars;
         Done {
             detector: self,
             reports: 0,
@@ -167,12 +167,12 @@ impl Detector {
         requires { ⌜ Valid self × (c < 16) ⌝ }
         ensures { λ r. ⌜ ((b : List ℕ) → Does r b b (destroyCondvar (tables self) c)) ⌝ }
     {
-        let mut rest = self.rest;
-        rest.cv_waiters[c] = empty_queue();
-        let waiting = rest.thread_wait_cv;
-        let fewer = forgotten(waiting, c);
-        rest.thread_wait_cv = fewer;
-        self.rest = rest;
+        let mut condvars = self.condvars;
+        condvars.cv_waiters[c] = empty_queue();
+        let cv_waits = condvars.thread_wait_cv;
+        let fewer = forgotten(cv_waits, c);
+        condvars.thread_wait_cv = fewer;
+        self.condvars = condvars;
         Done {
             detector: self,
             reports: 0,
@@ -181,23 +181,23 @@ impl Detector {
 
     // cb
     pub fn begin_wait(mut self, t: usize, c: usize, l: usize) -> Done
-        requires { ⌜ Valid self × (t < 32) × (c < 16) × (l < 64) × (getD (self .rest .«cv_waiters») c blankQueue .len < 32) ⌝ }
+        requires { ⌜ Valid self × (t < 32) × (c < 16) × (l < 64) × (getD (self .condvars .«cv_waiters») c blankQueue .len < 32) ⌝ }
         ensures { λ r. ⌜ ((b : List ℕ) → Does r b b (beginWait (tables self) t c l)) ⌝ }
     {
-        let mut rest = self.rest;
-        let mut q = rest.cv_waiters[c];
+        let mut condvars = self.condvars;
+        let mut q = condvars.cv_waiters[c];
         let n = q.len as usize;
         q.pairs[n] = Pair {
             thread: t as u8,
             lock: l as u8,
         };
         q.len = (n + 1) as u8;
-        rest.cv_waiters[c] = q;
-        rest.thread_wait_cv[t] = CvWait {
+        condvars.cv_waiters[c] = q;
+        condvars.thread_wait_cv[t] = CvWait {
             condvar: c as u8,
             lock: l as u8,
         };
-        self.rest = rest;
+        self.condvars = condvars;
         Done {
             detector: self,
             reports: 0,
@@ -206,12 +206,12 @@ impl Detector {
 
     // c1
     pub fn notify_one(mut self, c: usize, buf: &mut [u8]) -> Done
-        requires { ⌜ Valid self × (c < 16) × (reportRoom ≤ length (now buf)) ⌝ }
+        requires { ⌜ Valid self × (c < 16) × (bufferBytes ≤ length (now buf)) ⌝ }
         ensures { λ r. ⌜ Does r (now (buf .entry)) (now (buf .exit)) (notifyOne (tables self) c) ⌝ }
     {
-        let mut rest = self.rest;
+        let mut condvars = self.condvars;
         let counts = self.rwlock_readers;
-        let q = rest.cv_waiters[c];
+        let q = condvars.cv_waiters[c];
         let n = q.len;
         if n == 0 {
             return Done {
@@ -220,7 +220,7 @@ impl Detector {
             };
         }
         let p = q.pairs[0];
-        rest.cv_waiters[c] = popped(q);
+        condvars.cv_waiters[c] = popped(q);
         let w = self.waits;
         let start = Awake {
             waits: w,
@@ -232,7 +232,7 @@ impl Detector {
         let waits = a.waits;
         self.waits = waits;
         self.cv_woken = a.woken;
-        self.rest = rest;
+        self.condvars = condvars;
         Done {
             detector: self,
             reports: a.reports,
@@ -241,13 +241,13 @@ impl Detector {
 
     // ca
     pub fn notify_all(mut self, c: usize, buf: &mut [u8]) -> Done
-        requires { ⌜ Valid self × (c < 16) × (reportRoom ≤ length (now buf)) ⌝ }
+        requires { ⌜ Valid self × (c < 16) × (bufferBytes ≤ length (now buf)) ⌝ }
         ensures { λ r. ⌜ Does r (now (buf .entry)) (now (buf .exit)) (notifyAll (tables self) c) ⌝ }
     {
-        let mut rest = self.rest;
+        let mut condvars = self.condvars;
         let counts = self.rwlock_readers;
-        let q = rest.cv_waiters[c];
-        rest.cv_waiters[c] = empty_queue();
+        let q = condvars.cv_waiters[c];
+        condvars.cv_waiters[c] = empty_queue();
         let w = self.waits;
         let start = Awake {
             waits: w,
@@ -259,7 +259,7 @@ impl Detector {
         let waits = a.waits;
         self.waits = waits;
         self.cv_woken = a.woken;
-        self.rest = rest;
+        self.condvars = condvars;
         Done {
             detector: self,
             reports: a.reports,
@@ -271,10 +271,10 @@ impl Detector {
         requires { ⌜ Valid self × (t < 32) × (c < 16) × (l < 64) ⌝ }
         ensures { λ r. ⌜ ((b : List ℕ) → Does r b b (endWait (tables self) t c l)) ⌝ }
     {
-        let mut rest = self.rest;
-        let q = rest.cv_waiters[c];
-        rest.cv_waiters[c] = left_by(q, t, l);
-        rest.thread_wait_cv[t] = CvWait {
+        let mut condvars = self.condvars;
+        let q = condvars.cv_waiters[c];
+        condvars.cv_waiters[c] = left_by(q, t, l);
+        condvars.thread_wait_cv[t] = CvWait {
             condvar: 16,
             lock: 0,
         };
@@ -282,7 +282,7 @@ impl Detector {
         let waits = w0.clear_wait_intent(t);
         self.waits = waits;
         self.cv_woken = threads::without(self.cv_woken, t);
-        self.rest = rest;
+        self.condvars = condvars;
         Done {
             detector: self,
             reports: 0,

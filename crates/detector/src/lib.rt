@@ -12,13 +12,13 @@ mod types;
 mod valid;
 
 pub use event::Event;
-pub use reply::Answered;
 pub use reply::Count;
 pub use reply::Done;
 pub use reply::Reply;
+pub use reply::Stepped;
+pub use state::Condvars;
 pub use state::CvWait;
 pub use state::Detector;
 pub use state::Pair;
 pub use state::Queue;
-pub use state::Rest;
 pub use types::typed;

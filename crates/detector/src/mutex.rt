@@ -6,7 +6,7 @@ ghost use lib.ListN.{length};
 ghost use Rattle.waits.specs.Tables.{InRange, own};
 ghost use Rattle.waits.specs.Validate.{names};
 ghost use Rattle.detector.specs.Mutex.{gain, clearNaming, purge, mutexAttempt, completeAcquire, releaseMutex, destroyMutex};
-ghost use Rattle.detector.specs.Refusals.{hintOf, reportRoom};
+ghost use Rattle.detector.specs.Refusals.{hintOf, bufferBytes};
 ghost use Rattle.detector.specs.State.{tables, Valid};
 ghost use Rattle.detector.specs.Promises.{Does};
 ghost use Rattle.detector.specs.Code.{blocked, hinted};
@@ -107,7 +107,7 @@ pub(crate) fn purged(w0: Waits, l: usize) -> Waits
 impl Detector {
     // ma
     pub fn acquire_slow_with_recheck(self, t: usize, l: usize, o: Outcome, buf: &mut [u8]) -> Done
-        requires { ⌜ Valid self × (t < 32) × (l < 64) × (hintOf o < 32) × (reportRoom ≤ length (now buf)) ⌝ }
+        requires { ⌜ Valid self × (t < 32) × (l < 64) × (hintOf o < 32) × (bufferBytes ≤ length (now buf)) ⌝ }
         ensures { λ r. ⌜ Does r (now (buf .entry)) (now (buf .exit)) (mutexAttempt (tables self) t l o) ⌝ }
     {
         let w0 = self.waits;
@@ -116,23 +116,23 @@ impl Detector {
             let before = owners[l] as usize;
             let h = hinted(before, o);
             let w = owned(w0, l, h);
-            let counts = self.readers();
+            let counts = self.counts();
             let d = w.attempt(&counts, t, l, WaitMode::Mutex, buf, 0);
-            return self.told(d);
+            return self.with_judged(d);
         }
         let a = owned(w0, l, t);
         let w = gained(a, t, l);
         let mut d = w.quiet(0);
         if w.lock_waiters[l] != 0 {
-            let counts = self.readers();
+            let counts = self.counts();
             d = w.settle(&counts, l, buf, 0);
         }
-        self.told(d)
+        self.with_judged(d)
     }
 
     // mc
     pub fn complete_acquire(self, t: usize, l: usize, buf: &mut [u8]) -> Done
-        requires { ⌜ Valid self × (t < 32) × (l < 64) × (reportRoom ≤ length (now buf)) ⌝ }
+        requires { ⌜ Valid self × (t < 32) × (l < 64) × (bufferBytes ≤ length (now buf)) ⌝ }
         ensures { λ r. ⌜ Does r (now (buf .entry)) (now (buf .exit)) (completeAcquire (tables self) t l) ⌝ }
     {
         let w0 = self.waits;
@@ -140,10 +140,10 @@ impl Detector {
         let w = gained(a, t, l);
         let mut d = w.quiet(0);
         if w.lock_waiters[l] != 0 {
-            let counts = self.readers();
+            let counts = self.counts();
             d = w.settle(&counts, l, buf, 0);
         }
-        self.told(d)
+        self.with_judged(d)
     }
 
     // mr
@@ -158,7 +158,7 @@ impl Detector {
         let holds = w.thread_holds[t];
         w.thread_holds[t] = locks::without(holds, l);
         if w.lock_waiters[l] != 0 {
-            let counts = self.readers();
+            let counts = self.counts();
             let k = w.refresh_waiters_for_lock(&counts, l);
             let graph = k.graph;
             w.wait_for_graph = graph;

@@ -34,7 +34,7 @@ fn outside(t: usize, h: usize, l: usize, c: usize, room: usize) -> u8
     if c >= Detector::CONDVARS {
         return 5;
     }
-    if room < Detector::REPORT_BYTES {
+    if room < Detector::BUFFER_BYTES {
         return 6;
     }
     0
@@ -79,8 +79,8 @@ impl Detector {
         requires { ⌜ Valid self × (c < 16) ⌝ }
         ensures { λ r. ⌜ r ≡ fullQueue (tables self) c ⌝ }
     {
-        let rest = self.rest;
-        let q = rest.cv_waiters[c];
+        let condvars = self.condvars;
+        let q = condvars.cv_waiters[c];
         if q.len < 32 {
             return 0;
         }

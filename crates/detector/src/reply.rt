@@ -19,7 +19,7 @@ pub enum Count {
 }
 
 // The state after a step, and the answer to it.
-pub struct Answered {
+pub struct Stepped {
     pub detector: Detector,
     pub reply: Reply,
 }

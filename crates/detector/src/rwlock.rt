@@ -6,7 +6,7 @@ ghost use lib.ListN.{length};
 ghost use Rattle.waits.specs.Tables.{InRange, withGraph, write};
 ghost use Rattle.waits.specs.Owners.{countOf};
 ghost use Rattle.detector.specs.RwLock.{countUp, countDown, noReaders, writeReleased, loosen, readAttempt, completeRead, readTry, releaseRead, writeAttempt, completeWrite, releaseWrite, destroyRwLock};
-ghost use Rattle.detector.specs.Refusals.{hintOf, fullAttempt, fullTry, reportRoom};
+ghost use Rattle.detector.specs.Refusals.{hintOf, fullAttempt, fullTry, bufferBytes};
 ghost use Rattle.detector.specs.State.{tables, Valid};
 ghost use Rattle.detector.specs.Promises.{Does};
 use crate::mutex::gained;
@@ -81,7 +81,7 @@ fn counted_down(counts: [u8; 2048], t: usize, l: usize) -> [u8; 2048]
     r
 }
 
-fn unread(counts: [u8; 2048], l: usize) -> [u8; 2048]
+fn no_readers(counts: [u8; 2048], l: usize) -> [u8; 2048]
     requires { ⌜ l < 64 ⌝ }
     ensures { λ r. ⌜ r ≡ noReaders counts l ⌝ }
 {
@@ -104,7 +104,7 @@ impl Detector {
         o: Outcome,
         buf: &mut [u8],
     ) -> Done
-        requires { ⌜ Valid self × (t < 32) × (l < 64) × (hintOf o < 32) × (fullAttempt (tables self) t l o ≡ 0) × (reportRoom ≤ length (now buf)) ⌝ }
+        requires { ⌜ Valid self × (t < 32) × (l < 64) × (hintOf o < 32) × (fullAttempt (tables self) t l o ≡ 0) × (bufferBytes ≤ length (now buf)) ⌝ }
         ensures { λ r. ⌜ Does r (now (buf .entry)) (now (buf .exit)) (readAttempt (tables self) t l o) ⌝ }
     {
         let w0 = self.waits;
@@ -113,12 +113,12 @@ impl Detector {
             let before = writers[l] as usize;
             let h = hinted(before, o);
             let w = written_by(w0, l, h);
-            let counts = self.readers();
+            let counts = self.counts();
             let d = w.attempt(&counts, t, l, WaitMode::RwRead, buf, 0);
-            return self.told(d);
+            return self.with_judged(d);
         }
         let w = w0.clear_wait_intent(t);
-        let counts = self.readers();
+        let counts = self.counts();
         let more = counted_up(counts, t, l);
         self.with_counts(w, more)
     }
@@ -130,7 +130,7 @@ impl Detector {
     {
         let w0 = self.waits;
         let w = w0.clear_wait_intent(t);
-        let counts = self.readers();
+        let counts = self.counts();
         let more = counted_up(counts, t, l);
         self.with_counts(w, more)
     }
@@ -144,7 +144,7 @@ impl Detector {
         let Tried::Taken = o else {
             return self.with_waits(w, 0);
         };
-        let counts = self.readers();
+        let counts = self.counts();
         let more = counted_up(counts, t, l);
         let k = w.refresh_waiters_for_lock(&more, l);
         let graph = k.graph;
@@ -157,7 +157,7 @@ impl Detector {
         requires { ⌜ Valid self × (t < 32) × (l < 64) ⌝ }
         ensures { λ r. ⌜ ((b : List ℕ) → Does r b b (releaseRead (tables self) t l)) ⌝ }
     {
-        let counts = self.readers();
+        let counts = self.counts();
         let fewer = counted_down(counts, t, l);
         let mut w = self.waits;
         let at = place(l, t);
@@ -176,7 +176,7 @@ impl Detector {
         o: Outcome,
         buf: &mut [u8],
     ) -> Done
-        requires { ⌜ Valid self × (t < 32) × (l < 64) × (hintOf o < 32) × (reportRoom ≤ length (now buf)) ⌝ }
+        requires { ⌜ Valid self × (t < 32) × (l < 64) × (hintOf o < 32) × (bufferBytes ≤ length (now buf)) ⌝ }
         ensures { λ r. ⌜ Does r (now (buf .entry)) (now (buf .exit)) (writeAttempt (tables self) t l o) ⌝ }
     {
         let w0 = self.waits;
@@ -185,23 +185,23 @@ impl Detector {
             let before = writers[l] as usize;
             let h = hinted(before, o);
             let w = written_by(w0, l, h);
-            let counts = self.readers();
+            let counts = self.counts();
             let d = w.attempt(&counts, t, l, WaitMode::RwWrite, buf, 0);
-            return self.told(d);
+            return self.with_judged(d);
         }
         let a = written_by(w0, l, t);
         let w = gained(a, t, l);
         let mut d = w.quiet(0);
         if w.lock_waiters[l] != 0 {
-            let counts = self.readers();
+            let counts = self.counts();
             d = w.settle(&counts, l, buf, 0);
         }
-        self.told(d)
+        self.with_judged(d)
     }
 
     // wc
     pub fn complete_write(self, t: usize, l: usize, buf: &mut [u8]) -> Done
-        requires { ⌜ Valid self × (t < 32) × (l < 64) × (reportRoom ≤ length (now buf)) ⌝ }
+        requires { ⌜ Valid self × (t < 32) × (l < 64) × (bufferBytes ≤ length (now buf)) ⌝ }
         ensures { λ r. ⌜ Does r (now (buf .entry)) (now (buf .exit)) (completeWrite (tables self) t l) ⌝ }
     {
         let w0 = self.waits;
@@ -209,10 +209,10 @@ impl Detector {
         let w = gained(a, t, l);
         let mut d = w.quiet(0);
         if w.lock_waiters[l] != 0 {
-            let counts = self.readers();
+            let counts = self.counts();
             d = w.settle(&counts, l, buf, 0);
         }
-        self.told(d)
+        self.with_judged(d)
     }
 
     // wr
@@ -232,8 +232,8 @@ impl Detector {
         requires { ⌜ Valid self × (l < 64) ⌝ }
         ensures { λ r. ⌜ ((b : List ℕ) → Does r b b (destroyRwLock (tables self) l)) ⌝ }
     {
-        let counts = self.readers();
-        let none = unread(counts, l);
+        let counts = self.counts();
+        let none = no_readers(counts, l);
         let w0 = self.waits;
         let a = written_by(w0, l, 32);
         let w = purged(a, l);

@@ -4,7 +4,7 @@ ghost use Rattle.detector.specs.Tables as rules;
 ghost use Rattle.detector.specs.State.{tables, Valid};
 ghost use Rattle.detector.specs.Code.{putWaits, putCounts};
 use crate::reply::Done;
-use waits::Told;
+use waits::Judged;
 use waits::Waits;
 
 pub struct Pair {
@@ -25,7 +25,7 @@ pub struct CvWait {
 }
 
 // The tables of the condition variables. All bytes: a wider number here would have the compiler copy them with every event.
-pub struct Rest {
+pub struct Condvars {
     pub cv_waiters: [Queue; 16],
     pub thread_wait_cv: [CvWait; 32],
 }
@@ -36,7 +36,7 @@ pub struct Detector {
     pub waits: Waits,
     pub cv_woken: u32,
     pub rwlock_readers: [u8; 2048],
-    pub rest: Rest,
+    pub condvars: Condvars,
 }
 
 impl Detector {
@@ -46,7 +46,7 @@ impl Detector {
 
     pub const CONDVARS: usize = 16;
     // Room for 32 of the longest reports.
-    pub const REPORT_BYTES: usize = 32 * Waits::REPORT;
+    pub const BUFFER_BYTES: usize = 32 * Waits::REPORT_BYTES;
 
     pub fn new() -> Detector
         ensures { λ r. ⌜ (tables r ≡ rules.empty) × Valid r ⌝ }
@@ -56,7 +56,7 @@ impl Detector {
             waits,
             cv_woken: 0,
             rwlock_readers: [0u8; 2048],
-            rest: Rest {
+            condvars: Condvars {
                 cv_waiters: [Queue {
                     pairs: [Pair { thread: 0, lock: 0 }; 32],
                     len: 0,
@@ -75,24 +75,24 @@ impl Detector {
     {
         let cv_woken = self.cv_woken;
         let rwlock_readers = self.rwlock_readers;
-        let rest = self.rest;
+        let condvars = self.condvars;
         let detector = Detector {
             waits,
             cv_woken,
             rwlock_readers,
-            rest,
+            condvars,
         };
         Done { detector, reports }
     }
 
-    pub(crate) fn told(self, d: Told) -> Done
+    pub(crate) fn with_judged(self, d: Judged) -> Done
         ensures { λ r. ⌜ r ≡ putWaits self (d .waits) (d .reports) ⌝ }
     {
         let w = d.waits;
         self.with_waits(w, d.reports)
     }
 
-    pub(crate) fn readers(self) -> [u8; 2048]
+    pub(crate) fn counts(self) -> [u8; 2048]
         ensures { λ r. ⌜ r ≡ self .«rwlock_readers» ⌝ }
     {
         self.rwlock_readers
@@ -103,12 +103,12 @@ impl Detector {
         ensures { λ r. ⌜ r ≡ putCounts self waits «rwlock_readers» ⌝ }
     {
         let cv_woken = self.cv_woken;
-        let rest = self.rest;
+        let condvars = self.condvars;
         let detector = Detector {
             waits,
             cv_woken,
             rwlock_readers,
-            rest,
+            condvars,
         };
         Done {
             detector,

@@ -12,14 +12,14 @@ ghost use Rattle.detector.specs.Promises.{stuckOf};
 ghost use Rattle.detector.specs.Stuck.{maskOf, trueWaits, found, anyBack, stuckIn, stuckCount, edgeCount};
 use crate::reply::Count;
 use crate::state::Detector;
-use graph::Answer;
+use graph::Way;
 use graph::find_path;
 use sets::threads;
 use waits::Awaits;
 use waits::Waits;
 
 // The threads for which t truly waits.
-fn awaited_by(w: Waits, counts: &[u8; 2048], t: usize) -> u32
+fn blocking_mask(w: Waits, counts: &[u8; 2048], t: usize) -> u32
     requires { ⌜ InRange w × (t < 32) ⌝ }
     ensures { λ r. ⌜ r ≡ maskOf (blocking (now (counts .entry)) w (intentOf w t)) ⌝ }
 {
@@ -44,7 +44,7 @@ fn rows_of(w: Waits, counts: &[u8; 2048]) -> [u32; 32]
     let mut rows = [0u32; 32];
     let mut t = 0;
     while t < 32 {
-        rows[t] = awaited_by(w, counts, t);
+        rows[t] = blocking_mask(w, counts, t);
         t += 1;
     }
     rows
@@ -56,8 +56,8 @@ fn leads(rows: [u32; 32], u: usize, t: usize) -> bool
     ensures { λ r. ⌜ r ≡ found (findPath rows u t) ⌝ }
 {
     let s = find_path(rows, u, t);
-    let answer = s.answer;
-    let Answer::Found = answer else {
+    let way = s.way;
+    let Way::Found = way else {
         return false;
     };
     true

@@ -3,9 +3,9 @@
 ghost use Prim.Native.Nat.{ℕ, _<_};
 ghost use lib.ListN.{getD};
 ghost use Rattle.waits.specs.Tables.{noSlot, lockOf};
-ghost use Rattle.detector.specs.Tables.{blankWait};
+ghost use Rattle.detector.specs.Tables.{blankCvWait};
 ghost use Rattle.detector.specs.State.{blankQueue};
-ghost use Rattle.detector.specs.Typed.{Places, Wait, Typed};
+ghost use Rattle.detector.specs.Typed.{TypedQueue, TypedCvWait, Typed};
 use crate::state::CvWait;
 use crate::state::Detector;
 use crate::state::Pair;
@@ -17,7 +17,7 @@ fn pair(p: Pair)
 {}
 
 fn queue(q: Queue)
-    ensures { λ _. ⌜ Places q ⌝ }
+    ensures { λ _. ⌜ TypedQueue q ⌝ }
 {
     let mut k = 0;
     while k < 32 {
@@ -28,7 +28,7 @@ fn queue(q: Queue)
 }
 
 fn queues(qs: [Queue; 16])
-    ensures { λ _. ⌜ ((c : ℕ) → c < 16 → Places (getD qs c blankQueue)) ⌝ }
+    ensures { λ _. ⌜ ((c : ℕ) → c < 16 → TypedQueue (getD qs c blankQueue)) ⌝ }
 {
     let mut c = 0;
     while c < 16 {
@@ -38,17 +38,17 @@ fn queues(qs: [Queue; 16])
     }
 }
 
-fn sleeper(v: CvWait)
-    ensures { λ _. ⌜ Wait v ⌝ }
+fn cv_wait(v: CvWait)
+    ensures { λ _. ⌜ TypedCvWait v ⌝ }
 {}
 
-fn sleepers(vs: [CvWait; 32])
-    ensures { λ _. ⌜ ((t : ℕ) → Wait (getD vs t blankWait)) ⌝ }
+fn cv_waits(vs: [CvWait; 32])
+    ensures { λ _. ⌜ ((t : ℕ) → TypedCvWait (getD vs t blankCvWait)) ⌝ }
 {
     let mut t = 0;
     while t < 32 {
         let v = vs[t];
-        sleeper(v);
+        cv_wait(v);
         t += 1;
     }
 }
@@ -69,11 +69,11 @@ pub fn typed(d: Detector)
     ensures { λ _. ⌜ Typed d ⌝ }
 {
     let w = d.waits;
-    let rest = d.rest;
+    let condvars = d.condvars;
     let slots = w.thread_waits_for;
-    let waiters = rest.cv_waiters;
-    let waiting = rest.thread_wait_cv;
+    let waiters = condvars.cv_waiters;
+    let waits = condvars.thread_wait_cv;
     intents(slots);
     queues(waiters);
-    sleepers(waiting);
+    cv_waits(waits);
 }

@@ -7,8 +7,8 @@ ghost use lib.ListN.{getD, length};
 ghost use Rattle.sets.specs.Below.{every};
 ghost use Rattle.graph.specs.Search.{row};
 ghost use Rattle.waits.specs.Tables.{lockOf, intentOf};
-ghost use Rattle.detector.specs.Tables.{blankWait};
-ghost use Rattle.detector.specs.State.{blankQueue, rangeTest, placeTest, queueTest, waitTest, validTest, Valid};
+ghost use Rattle.detector.specs.Tables.{blankCvWait};
+ghost use Rattle.detector.specs.State.{blankQueue, rangeTest, placeTest, queueTest, cvWaitTest, validTest, Valid};
 use crate::state::CvWait;
 use crate::state::Detector;
 use crate::state::Pair;
@@ -111,8 +111,8 @@ fn queues_valid(qs: [Queue; 16]) -> bool
     true
 }
 
-fn wait_valid(v: CvWait) -> bool
-    ensures { λ r. ⌜ r ≡ waitTest v ⌝ }
+fn cv_wait_valid(v: CvWait) -> bool
+    ensures { λ r. ⌜ r ≡ cvWaitTest v ⌝ }
 {
     if v.condvar == 16 {
         return v.lock == 0;
@@ -123,13 +123,13 @@ fn wait_valid(v: CvWait) -> bool
     false
 }
 
-fn waiting_valid(vs: [CvWait; 32]) -> bool
-    ensures { λ r. ⌜ r ≡ every (λ t. waitTest (getD vs t blankWait)) 32 ⌝ }
+fn cv_waits_valid(vs: [CvWait; 32]) -> bool
+    ensures { λ r. ⌜ r ≡ every (λ t. cvWaitTest (getD vs t blankCvWait)) 32 ⌝ }
 {
     let mut t = 0;
     while t < 32 {
         let v = vs[t];
-        if wait_valid(v) {
+        if cv_wait_valid(v) {
             t += 1;
         } else {
             return false;
@@ -143,12 +143,12 @@ impl Detector {
         ensures { λ r. ⌜ (r ≡ validTest self) × (r ≡ true → Valid self) ⌝ }
     {
         let w = self.waits;
-        let rest = self.rest;
-        let queues = rest.cv_waiters;
-        let waiting = rest.thread_wait_cv;
+        let condvars = self.condvars;
+        let queues = condvars.cv_waiters;
+        let cv_waits = condvars.thread_wait_cv;
         if waits_in_range(w) {
             if queues_valid(queues) {
-                return waiting_valid(waiting);
+                return cv_waits_valid(cv_waits);
             }
             return false;
         }

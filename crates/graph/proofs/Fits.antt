@@ -15,7 +15,7 @@ use Rattle.sets.specs.Lists.{In}
 use Rattle.sets.proofs.Walk.{upward-lt}
 use Rattle.graph.specs.Search.{row, Trail, visit, expand, wayBack, search, begin, findPath}
 use Rattle.graph.specs.Graph.{Adding, adding, closing, addEdge, first, addNext, addOwners, one}
-use Rattle.graph.specs.Code.{answered, foundIn}
+use Rattle.graph.specs.Code.{soughtOf, foundIn}
 use Rattle.graph.specs.Promises.{Fit}
 use Rattle.graph.specs.declared.wait_for_graph.WaitForGraph.{WaitForGraph}
 
@@ -71,7 +71,7 @@ back-long (suc f) s (suc k) acc = omega (arith, back-long f s (getD (s .parents)
 -- ---- answers
 
 abbrev pub Fits : Option (List ℕ) → Type 0
-Fits o = Fit (answered o .path)
+Fits o = Fit (soughtOf o .path)
 
 pub fits-none : Fits none
 fits-none = record { long = omega arith; small = small-append [] (replicate 32 0) small-nil (small-zeros 32); cells = omega arith }
@@ -129,7 +129,7 @@ fits-owners t g os h = fits-all t os (adding g none) h fits-none
 
 -- ---- an answer, read back
 
-pub found-in : (o : Option (List ℕ)) → foundIn (answered o) ≡ o
+pub found-in : (o : Option (List ℕ)) → foundIn (soughtOf o) ≡ o
 found-in none = refl
 found-in (some p) = ap some (take-append-seam p (replicate (32 - length p) 0))
 

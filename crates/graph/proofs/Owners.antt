@@ -5,10 +5,10 @@ use mathlib.Core.Option.{Option, none, some}
 use Prim.Native.Nat.{ℕ}
 use native.Mathlib.Omega.{arith}
 use Rattle.graph.specs.Graph.{Adding, adding, closing, stored, first, addNext}
-use Rattle.graph.specs.Code.{answered, sooner, added, addNextC}
+use Rattle.graph.specs.Code.{soughtOf, sooner, added, addNextC}
 use Rattle.graph.specs.declared.wait_for_graph.Added.{Added}
 use Rattle.graph.specs.declared.wait_for_graph.WaitForGraph.{WaitForGraph}
-use Rattle.graph.specs.declared.path.Answer.the-variants.{Found, Missing}
+use Rattle.graph.specs.declared.path.Way.the-variants.{Found, Missing}
 
 -- ---- which case of an answer it is
 
@@ -16,19 +16,19 @@ never : Found ≡ Missing → ⊥
 never e = let z : _≡_ {A = ℕ} 0 1 = cc in omega arith
 
 module _ (g : WaitForGraph) (a b : ℕ) where
-  pub closes : (w : Option (List ℕ)) → answered w .answer ≡ Found → added (closing g a b w) ≡ added (adding g w)
+  pub closes : (w : Option (List ℕ)) → soughtOf w .way ≡ Found → added (closing g a b w) ≡ added (adding g w)
   unfolding closing
   closes (some p) e = refl
   closes none e = absurd (never (sym e))
 
-  pub stores : (w : Option (List ℕ)) → answered w .answer ≡ Missing → added (closing g a b w) ≡ added (adding (stored g a b) w)
+  pub stores : (w : Option (List ℕ)) → soughtOf w .way ≡ Missing → added (closing g a b w) ≡ added (adding (stored g a b) w)
   unfolding closing
   stores (some p) e = absurd (never e)
   stores none e = refl
 
 -- ---- the first path is kept
 
-pub sooner-first : (p q : Option (List ℕ)) → sooner (answered p) (answered q) ≡ answered (first p q)
+pub sooner-first : (p q : Option (List ℕ)) → sooner (soughtOf p) (soughtOf q) ≡ soughtOf (first p q)
 sooner-first (some p) q = refl
 sooner-first none q = refl
 

@@ -8,8 +8,8 @@ use Rattle.graph.specs.Graph.{Adding, addEdge}
 use Rattle.graph.specs.declared.search.Search.{Search}
 use Rattle.graph.specs.declared.path.Sought.{Sought}
 use Rattle.graph.specs.declared.path.Path.{Path}
-use Rattle.graph.specs.declared.path.Answer.{Answer}
-use Rattle.graph.specs.declared.path.Answer.the-variants.{Found, Missing}
+use Rattle.graph.specs.declared.path.Way.{Way}
+use Rattle.graph.specs.declared.path.Way.the-variants.{Found, Missing}
 use Rattle.graph.specs.declared.wait_for_graph.Added.{Added}
 
 -- PATHS
@@ -17,28 +17,28 @@ use Rattle.graph.specs.declared.wait_for_graph.Added.{Added}
 abbrev pub pathOf : List ℕ → Path
 pathOf l = record { threads = l ++ replicate (32 - length l) 0; len = length l }
 
-abbrev pub answered : Option (List ℕ) → Sought
-answered (some l) = record { answer = Found; path = pathOf l }
-answered none = record { answer = Missing; path = pathOf [] }
+abbrev pub soughtOf : Option (List ℕ) → Sought
+soughtOf (some l) = record { way = Found; path = pathOf l }
+soughtOf none = record { way = Missing; path = pathOf [] }
 
 -- the threads of a path
 abbrev pub listOf : Path → List ℕ
 listOf p = take (p .len) (p .threads)
 
 -- the answer's case and its value: document 01's "path found or none"
-abbrev pub foundBy : Answer → Path → Option (List ℕ)
+abbrev pub foundBy : Way → Path → Option (List ℕ)
 foundBy Found p = some (listOf p)
 foundBy Missing p = none
 
 abbrev pub foundIn : Sought → Option (List ℕ)
-foundIn s = foundBy (s .answer) (s .path)
+foundIn s = foundBy (s .way) (s .path)
 
-abbrev pub soonerBy : Answer → Sought → Sought → Sought
+abbrev pub soonerBy : Way → Sought → Sought → Sought
 soonerBy Found a b = a
 soonerBy Missing a b = b
 
 abbrev pub sooner : Sought → Sought → Sought
-sooner a b = soonerBy (a .answer) a b
+sooner a b = soonerBy (a .way) a b
 
 -- THE SEARCH
 abbrev pub trailOf : Search → Trail
@@ -46,7 +46,7 @@ trailOf s = record { threads = take (s .count) (s .threads); parents = take (s .
 
 -- THE GRAPH
 abbrev pub added : Adding → Added
-added k = record { graph = k .graph; sought = answered (k .found) }
+added k = record { graph = k .graph; sought = soughtOf (k .found) }
 
 -- one step of the code's own walk over owners
 unfoldable pub addNextC : ℕ → Added → ℕ → Added

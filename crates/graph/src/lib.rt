@@ -5,9 +5,9 @@ mod search;
 mod wait_for_graph;
 
 pub use mirror::mirrors;
-pub use path::Answer;
 pub use path::Path;
 pub use path::Sought;
+pub use path::Way;
 pub use search::find_path;
 pub use wait_for_graph::Added;
 pub use wait_for_graph::WaitForGraph;

@@ -1,7 +1,7 @@
 // A path of threads, and the answer whether there is one.
 ghost use mathlib.Core.Path.{_≡_};
 ghost use mathlib.Core.Option.{none};
-ghost use Rattle.graph.specs.Code.{answered, sooner};
+ghost use Rattle.graph.specs.Code.{soughtOf, sooner};
 
 // The threads in order; the places behind hold 0.
 pub struct Path {
@@ -9,23 +9,23 @@ pub struct Path {
     pub len: usize,
 }
 
-pub enum Answer {
+pub enum Way {
     Found,
     Missing,
 }
 
 // The answer of a search. The path is empty where there is none.
 pub struct Sought {
-    pub answer: Answer,
+    pub way: Way,
     pub path: Path,
 }
 
 impl Sought {
     pub fn missing() -> Sought
-        ensures { λ r. ⌜ r ≡ answered none ⌝ }
+        ensures { λ r. ⌜ r ≡ soughtOf none ⌝ }
     {
         Sought {
-            answer: Answer::Missing,
+            way: Way::Missing,
             path: Path {
                 threads: [0u8; 32],
                 len: 0,
@@ -37,8 +37,8 @@ impl Sought {
     pub fn or(self, later: Sought) -> Sought
         ensures { λ r. ⌜ r ≡ sooner self later ⌝ }
     {
-        let answer = self.answer;
-        let Answer::Found = answer else {
+        let way = self.way;
+        let Way::Found = way else {
             return later;
         };
         self

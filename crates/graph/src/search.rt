@@ -6,10 +6,10 @@ ghost use Prim.Native.Nat.{_<_, _≤_};
 ghost use lib.ListN.{drop};
 ghost use Rattle.graph.specs.Search.{visit, expand, wayBack, begin, findPath};
 ghost use Rattle.graph.specs.Promises.{Sound};
-ghost use Rattle.graph.specs.Code.{trailOf, pathOf, answered};
-use crate::path::Answer;
+ghost use Rattle.graph.specs.Code.{trailOf, pathOf, soughtOf};
 use crate::path::Path;
 use crate::path::Sought;
+use crate::path::Way;
 use sets::threads;
 
 // The threads found, in order: the queue, with what has left it. For each the place of the one that it was found from.
@@ -93,14 +93,14 @@ impl Search {
 
     fn found(self, place: usize) -> Sought
         requires { ⌜ Sound self × (place < self .count) ⌝ }
-        ensures { λ r. ⌜ r ≡ answered (some (wayBack 31 (trailOf self) place [])) ⌝ }
+        ensures { λ r. ⌜ r ≡ soughtOf (some (wayBack 31 (trailOf self) place [])) ⌝ }
     {
         let b = self.back(place);
         let cells = b.cells;
         let at = b.at;
         let path = lowered(cells, at);
         Sought {
-            answer: Answer::Found,
+            way: Way::Found,
             path,
         }
     }
@@ -123,7 +123,7 @@ fn lowered(cells: [u8; 32], at: usize) -> Path
 // A path from start to target over 32 rows.
 pub fn find_path(edges: [u32; 32], start: usize, target: usize) -> Sought
     requires { ⌜ start < 32 ⌝ }
-    ensures { λ r. ⌜ r ≡ answered (findPath edges start target) ⌝ }
+    ensures { λ r. ⌜ r ≡ soughtOf (findPath edges start target) ⌝ }
 {
     // Most threads that own a lock wait for nobody.
     if edges[start] == 0 {

@@ -5,8 +5,8 @@ ghost use Prim.Native.Nat.{_<_, _≤_};
 ghost use Rattle.sets.specs.Sets.{upward};
 ghost use Rattle.graph.specs.Graph.{empty, cutAll, stored, addEdge, removeEdge, clearWaitEdges, removeThread, addOwners, removeEdgesTo, one};
 ghost use Rattle.graph.specs.Code.{added, addNextC};
-use crate::path::Answer;
 use crate::path::Sought;
+use crate::path::Way;
 use crate::search::find_path;
 use sets::threads;
 
@@ -71,8 +71,8 @@ impl WaitForGraph {
             };
         }
         let sought = find_path(edges, to, from);
-        let answer = sought.answer;
-        let Answer::Missing = answer else {
+        let way = sought.way;
+        let Way::Missing = way else {
             return Added {
                 graph: self,
                 sought,

@@ -21,8 +21,8 @@ use Rattle.waits.specs.declared.intent.WaitMode.{WaitMode}
 use Rattle.waits.specs.declared.intent.WaitMode.the-variants.{Mutex, RwRead, RwWrite}
 use Rattle.waits.specs.declared.intent.Awaits.{Awaits}
 use Rattle.waits.specs.declared.intent.Awaits.the-variants.{Nothing, For}
-use Rattle.detector.specs.Tables.{blankWait, noPair}
-use Rattle.detector.specs.State.{tables, pairsOf, blankQueue, Queued, Waiting, Valid}
+use Rattle.detector.specs.Tables.{blankCvWait, noPair}
+use Rattle.detector.specs.State.{tables, pairsOf, blankQueue, Queued, ValidCvWait, Valid}
 use Rattle.detector.specs.declared.state.Pair.{Pair}
 use Rattle.detector.specs.declared.state.CvWait.{CvWait}
 use Rattle.detector.specs.declared.state.Queue.{Queue}
@@ -31,7 +31,7 @@ use Rattle.text.specs.Bytes.{text}
 use Rattle.text.specs.Decimal.{decimal, withTab, tabbed}
 use Rattle.text.proofs.Digits.{decimal-short}
 use Rattle.listing.specs.Listing.{tableText, two, three, along, below, membersOf, setItems, setsItems, ownersItems, readersOf, readersItems, pairItem, queueItems, queuesItems, cvWaitsItems, modeText, intentItem, intentsItems, condvarsText, graphText, mutexesText, rwlocksText, threadsText, tablesText}
-use Rattle.listing.specs.Code.{tablesRoom}
+use Rattle.listing.specs.Code.{tablesBytes}
 use Rattle.listing.proofs.Items.{tabbed-append}
 
 -- ---- items, a tab before each
@@ -168,15 +168,15 @@ queues-size qs e v =
     below-size _ 384 (length (map pairsOf qs)) 16 (length-map qs pairsOf ∙ e)
     (λ c g. rw (List·getD-map pairsOf qs c blankQueue) (queue-size c (getD qs c blankQueue) g (v c g)))
 
-wait-pick : (t : Bool) (u c l : ℕ) → u < 32 → c ≤ 16 → l < 64 → Size (cond t [] (three u (decimal c) l ∷ [])) ≤ 12
-wait-pick true u c l h g k = omega (arith, size-none)
-wait-pick false u c l h g k = omega (arith, size-one (three u (decimal c) l), three-size u (decimal c) l 3 (omega arith) (omega arith) (digits c (omega arith)))
+cv-wait-pick : (t : Bool) (u c l : ℕ) → u < 32 → c ≤ 16 → l < 64 → Size (cond t [] (three u (decimal c) l ∷ [])) ≤ 12
+cv-wait-pick true u c l h g k = omega (arith, size-none)
+cv-wait-pick false u c l h g k = omega (arith, size-one (three u (decimal c) l), three-size u (decimal c) l 3 (omega arith) (omega arith) (digits c (omega arith)))
 
-waits-size : (vs : List CvWait) → length vs ≡ 32 → ((t : ℕ) → Waiting (getD vs t blankWait)) → Size (cvWaitsItems vs) ≤ 384
+cv-waits-size : (vs : List CvWait) → length vs ≡ 32 → ((t : ℕ) → ValidCvWait (getD vs t blankCvWait)) → Size (cvWaitsItems vs) ≤ 384
 unfolding cvWaitsItems
-waits-size vs e v =
+cv-waits-size vs e v =
     below-size _ 12 (length vs) 32 e
-    (λ t g. wait-pick (eqb (getD vs t blankWait .condvar) 16) t _ _ g (v t .condvar) (v t .lock))
+    (λ t g. cv-wait-pick (eqb (getD vs t blankCvWait .condvar) 16) t _ _ g (v t .condvar) (v t .lock))
 
 mode-size : (m : WaitMode) → length (modeText m) ≤ 7
 mode-size Mutex = omega arith
@@ -193,7 +193,7 @@ intents-size ss e v = below-size _ 16 (length ss) 32 e (λ t g. intent-size t (g
 
 -- ---- all of them: the lengths of the code's arrays, and that a count is a byte
 pub record Shaped (d : Detector) : Type 0 where
-  pub queues : length (d .rest .«cv_waiters») ≡ 16
+  pub queues : length (d .condvars .«cv_waiters») ≡ 16
   pub edges : length (d .waits .«wait_for_graph» .edges) ≡ 32
   pub incoming : length (d .waits .«wait_for_graph» .«incoming_edges») ≡ 32
   pub waiters : length (d .waits .«lock_waiters») ≡ 64
@@ -201,7 +201,7 @@ pub record Shaped (d : Detector) : Type 0 where
   pub counts : (i : ℕ) → getD (d .«rwlock_readers») i 0 < 256
   pub writers : length (d .waits .«rwlock_writer») ≡ 64
   pub holds : length (d .waits .«thread_holds») ≡ 32
-  pub waits : length (d .rest .«thread_wait_cv») ≡ 32
+  pub waits : length (d .condvars .«thread_wait_cv») ≡ 32
   pub intents : length (d .waits .«thread_waits_for») ≡ 32
 
 -- a text of at most a bytes
@@ -215,10 +215,10 @@ short : (name : List ℕ) (xs : List (List ℕ)) (b : ℕ) → length name ≤ 1
 short name xs b h g = record { fits = omega (arith, line-size name xs) }
 
 module _ (d : Detector) (v : Valid d) (s : Shaped d) where
-  condvars-size : Short (condvarsText (map pairsOf (d .rest .«cv_waiters»)) (d .«cv_woken»)) 6446
+  condvars-size : Short (condvarsText (map pairsOf (d .condvars .«cv_waiters»)) (d .«cv_woken»)) 6446
   unfolding condvarsText
   condvars-size =
-      both (short (text "cv_waiters") _ _ (omega arith) (queues-size (d .rest .«cv_waiters») (s .queues) (v .queues))) (short (text "cv_woken") _ _ (omega arith) (members-size (d .«cv_woken»)))
+      both (short (text "cv_waiters") _ _ (omega arith) (queues-size (d .condvars .«cv_waiters») (s .queues) (v .queues))) (short (text "cv_woken") _ _ (omega arith) (members-size (d .«cv_woken»)))
 
   graph-size : Short (graphText (d .waits)) 32814
   unfolding graphText
@@ -235,13 +235,13 @@ module _ (d : Detector) (v : Valid d) (s : Shaped d) where
   rwlocks-size =
       both (short (text "rwlock_readers") _ _ (omega arith) (readers-size _ (s .counts))) (short (text "rwlock_writer") _ _ (omega arith) (owners-size _ (s .writers)))
 
-  threads-size : Short (threadsText (d .waits) (d .rest .«thread_wait_cv»)) 17349
+  threads-size : Short (threadsText (d .waits) (d .condvars .«thread_wait_cv»)) 17349
   unfolding threadsText
   threads-size =
       both (short (text "thread_holds") _ _ (omega arith) (sets-size (code ":") 32 _ (s .holds) (omega arith)))
-      (both (short (text "thread_wait_cv") _ _ (omega arith) (waits-size _ (s .waits) (v .waiting))) (short (text "thread_waits_for") _ _ (omega arith) (intents-size _ (s .intents) (v .waits .locks))))
+      (both (short (text "thread_wait_cv") _ _ (omega arith) (cv-waits-size _ (s .waits) (v .cvWaits))) (short (text "thread_waits_for") _ _ (omega arith) (intents-size _ (s .intents) (v .waits .locks))))
 
-  pub tables-bound : length (tablesText (tables d)) ≤ tablesRoom
+  pub tables-bound : length (tablesText (tables d)) ≤ tablesBytes
   unfolding tablesText
   tables-bound =
       let all : Short (tablesText (tables d)) (6446 + (32814 + (33326 + (25134 + 17349)))) = both condvars-size (both graph-size (both mutexes-size (both rwlocks-size threads-size))) in

@@ -23,5 +23,5 @@ more new name [] = []
 more new name (i ∷ is) = begun new name ++ tabbed (i ∷ is)
 
 -- room for all tables of a state
-abbrev pub tablesRoom : ℕ
-tablesRoom = 120000
+abbrev pub tablesBytes : ℕ
+tablesBytes = 120000

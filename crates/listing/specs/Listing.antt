@@ -15,7 +15,7 @@ use Rattle.waits.specs.declared.intent.WaitMode.{WaitMode}
 use Rattle.waits.specs.declared.intent.WaitMode.the-variants.{Mutex, RwRead, RwWrite}
 use Rattle.waits.specs.declared.intent.Awaits.{Awaits}
 use Rattle.waits.specs.declared.intent.Awaits.the-variants.{Nothing, For}
-use Rattle.detector.specs.Tables.{Tables, blankWait}
+use Rattle.detector.specs.Tables.{Tables, blankCvWait}
 use Rattle.detector.specs.declared.state.Pair.{Pair}
 use Rattle.detector.specs.declared.state.CvWait.{CvWait}
 use Rattle.text.specs.Bytes.{text}
@@ -83,11 +83,11 @@ unfoldable pub queuesItems : List (List Pair) → List (List ℕ)
 queuesItems qs = below (length qs) (λ c. queueItems c (getD qs c []))
 
 -- thread:condvar:lock; condvar 16 is none
-abbrev pub waitItem : ℕ → CvWait → List (List ℕ)
-waitItem t v = cond (eqb (v .condvar) 16) [] (three t (decimal (v .condvar)) (v .lock) ∷ [])
+abbrev pub cvWaitItem : ℕ → CvWait → List (List ℕ)
+cvWaitItem t v = cond (eqb (v .condvar) 16) [] (three t (decimal (v .condvar)) (v .lock) ∷ [])
 
 unfoldable pub cvWaitsItems : List CvWait → List (List ℕ)
-cvWaitsItems vs = below (length vs) (λ t. waitItem t (getD vs t blankWait))
+cvWaitsItems vs = below (length vs) (λ t. cvWaitItem t (getD vs t blankCvWait))
 
 -- thread:mode:lock
 abbrev pub modeText : WaitMode → List ℕ

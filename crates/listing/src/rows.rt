@@ -1,9 +1,9 @@
 // The tables whose places are no sets: owners, counts, queues, waits on condvars, intents.
-use crate::entry::put_intent;
-use crate::entry::put_owner;
-use crate::entry::put_pair;
-use crate::entry::put_reader;
-use crate::entry::put_wait;
+use crate::cell::put_cv_wait;
+use crate::cell::put_intent;
+use crate::cell::put_owner;
+use crate::cell::put_pair;
+use crate::cell::put_reader;
 use crate::item::put_close;
 use detector::CvWait;
 use detector::Queue;
@@ -95,7 +95,7 @@ pub(crate) fn put_queues(out: &mut [u8], at: usize, name: &[u8], queues: [Queue;
     put_close(out, at, to)
 }
 
-pub(crate) fn put_waits(out: &mut [u8], at: usize, name: &[u8], waits: [CvWait; 32]) -> usize
+pub(crate) fn put_cv_waits(out: &mut [u8], at: usize, name: &[u8], waits: [CvWait; 32]) -> usize
     requires { ⌜ Room (now out) at (tableText (now name) (cvWaitsItems waits)) ⌝ }
     ensures { λ r. ⌜ Put (now (out .entry)) at (tableText (now (name .entry)) (cvWaitsItems waits)) (now (out .exit)) r ⌝ }
 {
@@ -103,7 +103,7 @@ pub(crate) fn put_waits(out: &mut [u8], at: usize, name: &[u8], waits: [CvWait; 
     let mut to = at;
     while t < 32 {
         let v = waits[t];
-        to = put_wait(out, at, to, name, t, v);
+        to = put_cv_wait(out, at, to, name, t, v);
         t = t + 1;
     }
     put_close(out, at, to)

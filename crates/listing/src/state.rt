@@ -2,11 +2,11 @@
 use crate::members::put_lock_sets;
 use crate::members::put_members;
 use crate::members::put_thread_sets;
+use crate::rows::put_cv_waits;
 use crate::rows::put_intents;
 use crate::rows::put_owners;
 use crate::rows::put_queues;
 use crate::rows::put_readers;
-use crate::rows::put_waits;
 use detector::CvWait;
 use detector::Detector;
 use detector::Queue;
@@ -18,10 +18,10 @@ ghost use Rattle.text.specs.Promises.{Room, Put};
 ghost use Rattle.detector.specs.State.{tables, pairsOf, Valid};
 ghost use Rattle.listing.specs.Listing.{condvarsText, graphText, mutexesText, rwlocksText, threadsText, tablesText};
 ghost use Rattle.listing.specs.Promises.{Queues};
-ghost use Rattle.listing.specs.Code.{tablesRoom};
+ghost use Rattle.listing.specs.Code.{tablesBytes};
 
 // Room for the tables of any state.
-pub const TABLES_ROOM: usize = 120000;
+pub const TABLES_BYTES: usize = 120000;
 
 fn put_condvars(out: &mut [u8], at: usize, queues: [Queue; 16], woken: u32) -> usize
     requires { ⌜ Queues queues × Room (now out) at (condvarsText (map pairsOf queues) woken) ⌝ }
@@ -67,7 +67,7 @@ fn put_threads(out: &mut [u8], at: usize, w: Waits, waits: [CvWait; 32]) -> usiz
 {
     let holds = w.thread_holds;
     let a = put_lock_sets(out, at, b"thread_holds", b':', &holds);
-    let b = put_waits(out, a, b"thread_wait_cv", waits);
+    let b = put_cv_waits(out, a, b"thread_wait_cv", waits);
     let slots = w.thread_waits_for;
     put_intents(out, b, b"thread_waits_for", slots)
 }
@@ -76,22 +76,22 @@ fn put_all(d: Detector, out: &mut [u8], at: usize) -> usize
     requires { ⌜ Valid d × Room (now out) at (tablesText (tables d)) ⌝ }
     ensures { λ r. ⌜ Put (now (out .entry)) at (tablesText (tables d)) (now (out .exit)) r ⌝ }
 {
-    let rest = d.rest;
-    let queues = rest.cv_waiters;
+    let condvars = d.condvars;
+    let queues = condvars.cv_waiters;
     let a = put_condvars(out, at, queues, d.cv_woken);
     let w = d.waits;
     let b = put_graph(out, a, w);
     let c = put_mutexes(out, b, w);
     let counts = d.rwlock_readers;
     let e = put_rwlocks(out, c, w, &counts);
-    let waits = rest.thread_wait_cv;
+    let waits = condvars.thread_wait_cv;
     put_threads(out, e, w, waits)
 }
 
 // A line for each table that is not empty.
 pub fn put_tables(d: Detector, out: &mut [u8], at: usize) -> usize
-    requires { ⌜ Valid d × (at + tablesRoom ≤ length (now out)) ⌝ }
-    ensures { λ r. ⌜ Put (now (out .entry)) at (tablesText (tables d)) (now (out .exit)) r × (r ≤ at + tablesRoom) ⌝ }
+    requires { ⌜ Valid d × (at + tablesBytes ≤ length (now out)) ⌝ }
+    ensures { λ r. ⌜ Put (now (out .entry)) at (tablesText (tables d)) (now (out .exit)) r × (r ≤ at + tablesBytes) ⌝ }
 {
     put_all(d, out, at)
 }

@@ -10,15 +10,15 @@ use lib.Dec.{eqb, ltb}
 use lib.ListN.{length, take, drop}
 use lib.Seq.{take-take, length-take-le}
 use Rattle.text.specs.Promises.{Put}
-use Rattle.answers.specs.Answers.{answerRoom}
+use Rattle.answers.specs.Answers.{answerBytes}
 use Rattle.text.proofs.Puts.{then}
 use Rattle.detector.specs.Tables.{Tables}
 use Rattle.detector.specs.State.{tables as tables-of}
 use Rattle.listing.specs.Listing.{tablesText}
-use Rattle.listing.specs.Code.{tablesRoom}
+use Rattle.listing.specs.Code.{tablesBytes}
 use Rattle.text.specs.Bytes.{lineFeed}
 use Rattle.transcript.specs.Replay.{Run, limit, after, lineText, lastText}
-use Rattle.transcript.specs.Chunks.{Mid, mid, step, said, fed, says, ends, lastLine}
+use Rattle.transcript.specs.Chunks.{Mid, mid, step, printsByte, fed, prints, ends, lastLine}
 use Rattle.transcript.specs.Code.{runOf, midOf, between}
 use Rattle.transcript.specs.Promises.{Moves, Feeds}
 use Rattle.transcript.specs.declared.run.Run as code
@@ -27,28 +27,28 @@ use Rattle.text.specs.Fields.{upTo}
 use Rattle.transcript.proofs.Turning.{piece, piece-feed}
 use Rattle.transcript.proofs.Chunk.{between-on}
 use Rattle.transcript.proofs.Feeding.{feeds-move, ends-closed}
-use Rattle.runner.specs.Shown.{lineShown, shownOf, shown, shows, closes, OpenShown}
-use Rattle.runner.specs.Code.{space, prints, printsLast}
+use Rattle.runner.specs.Shown.{lineShown, shownOf, showsByte, shows, closes, OpenShown}
+use Rattle.runner.specs.Code.{outBytes, printsWith, endsWith}
 use Rattle.runner.specs.Promises.{lineEnds, Part, Puts}
 
 -- ---- a byte ends no line that is read, or it ends one
 
 record Idle (m : Mid) (b : ℕ) : Type 0 where
   run : step m b .run ≡ m .run
-  says : said m b ≡ []
-  shows : shown m b ≡ []
+  prints : printsByte m b ≡ []
+  shows : showsByte m b ≡ []
 
 record Ends (m : Mid) (b : ℕ) : Type 0 where
   feed : eqb b lineFeed ≡ true
   run : step m b .run ≡ after (m .run) (m .part)
-  says : said m b ≡ lineText (m .run) (m .part)
-  shows : shown m b ≡ lineShown (m .run) (m .part)
+  prints : printsByte m b ≡ lineText (m .run) (m .part)
+  shows : showsByte m b ≡ lineShown (m .run) (m .part)
 
 byte-pick : {X : Type 0} (free feed : Bool) (m : Mid) (b : ℕ) → ltb (m .run .lines) limit ≡ free → eqb b lineFeed ≡ feed → (Idle m b → X) → (Ends m b → X) → X
-unfolding step said shown
-byte-pick false feed m b e f i l = i (record { run = rw e refl; says = rw e refl; shows = rw e refl })
-byte-pick true false m b e f i l = i (record { run = rw (e, f) refl; says = rw (e, f) refl; shows = rw (e, f) refl })
-byte-pick true true m b e f i l = l (record { feed = f; run = rw (e, f) refl; says = rw (e, f) refl; shows = rw (e, f) refl })
+unfolding step printsByte showsByte
+byte-pick false feed m b e f i l = i (record { run = rw e refl; prints = rw e refl; shows = rw e refl })
+byte-pick true false m b e f i l = i (record { run = rw (e, f) refl; prints = rw (e, f) refl; shows = rw (e, f) refl })
+byte-pick true true m b e f i l = l (record { feed = f; run = rw (e, f) refl; prints = rw (e, f) refl; shows = rw (e, f) refl })
 
 byte : {X : Type 0} (m : Mid) (b : ℕ) → (Idle m b → X) → (Ends m b → X) → X
 byte m b = byte-pick (ltb (m .run .lines) limit) (eqb b lineFeed) m b refl refl
@@ -148,32 +148,32 @@ module _ {tables : Bool} {chunk : List ℕ} {from e : ℕ} (h : from < length ch
 
 record Quiet (m : Mid) (t : List ℕ) : Type 0 where
   run : fed m t .run ≡ m .run
-  says : says m t ≡ []
+  prints : prints m t ≡ []
   shows : shows m t ≡ []
 
 quiet : (m : Mid) (t : List ℕ) → fed m t .run .lines ≡ m .run .lines → Quiet m t
-unfolding fed says shows
-quiet m [] e = record { run = refl; says = refl; shows = refl }
+unfolding fed prints shows
+quiet m [] e = record { run = refl; prints = refl; shows = refl }
 quiet m (b ∷ t) e = byte m b (λ i. go i (quiet (step m b) t (e ∙ sym (idle-lines i)))) (λ l. absurd (omega (arith, lines-up (step m b) t, ends-lines l)))
   where
     go : Idle m b → Quiet (step m b) t → Quiet m (b ∷ t)
     go i q =
         record {
           run = q .run ∙ i .run;
-          says = ap₂ (λ (x y : List ℕ). x ++ y) (i .says) (q .says);
+          prints = ap₂ (λ (x y : List ℕ). x ++ y) (i .prints) (q .prints);
           shows = ap₂ (λ (x y : List ℕ). x ++ y) (i .shows) (q .shows);
         }
 
-single : (m : Mid) (t : List ℕ) → fed m t .run .lines ≡ m .run .lines + 1 → shows m t ≡ says m t ++ tablesText (fed m t .run .tables)
-unfolding fed says shows lineShown
+single : (m : Mid) (t : List ℕ) → fed m t .run .lines ≡ m .run .lines + 1 → shows m t ≡ prints m t ++ tablesText (fed m t .run .tables)
+unfolding fed prints shows lineShown
 single m [] e = absurd (omega arith)
 single m (b ∷ t) e = byte m b
-    (λ i. rw (i .says, i .shows) (single (step m b) t (e ∙ ap (λ (n : ℕ). n + 1) (sym (idle-lines i)))))
+    (λ i. rw (i .prints, i .shows) (single (step m b) t (e ∙ ap (λ (n : ℕ). n + 1) (sym (idle-lines i)))))
     (λ l. go l (quiet (step m b) t (e ∙ sym (ends-lines l))))
   where
-    go : Ends m b → Quiet (step m b) t → shown m b ++ shows (step m b) t ≡ (said m b ++ says (step m b) t) ++ tablesText (fed (step m b) t .run .tables)
+    go : Ends m b → Quiet (step m b) t → showsByte m b ++ shows (step m b) t ≡ (printsByte m b ++ prints (step m b) t) ++ tablesText (fed (step m b) t .run .tables)
     go l q =
-        rw (l .says, l .shows, q .says, q .shows, q .run, l .run)
+        rw (l .prints, l .shows, q .prints, q .shows, q .run, l .run)
         (append-nil (lineShown (m .run) (m .part)) ∙ ap (λ (x : List ℕ). x ++ tablesText (after (m .run) (m .part) .tables)) (sym (append-nil (lineText (m .run) (m .part)))))
 
 -- ---- a call of feed over a part
@@ -182,7 +182,7 @@ single m (b ∷ t) e = byte m b
 pub whole-part : {tables : Bool} (chunk : List ℕ) (from : ℕ) → tables ≡ false → from < length chunk → Part tables chunk from (length chunk)
 whole-part chunk from e h = record { onward = h; inside = omega arith; one = λ t. absurd (false≢true (sym e ∙ t)) }
 
-module _ {tables : Bool} {r : code.Run} {carry chunk : List ℕ} {from e : ℕ} {out : List ℕ} {t : Turned} {carry′ out′ : List ℕ} (o : Part tables chunk from e) (s : Feeds r carry (take e chunk) from out 0 t carry′ out′) (more : r .lines < limit) (room : length out ≡ space) where
+module _ {tables : Bool} {r : code.Run} {carry chunk : List ℕ} {from e : ℕ} {out : List ℕ} {t : Turned} {carry′ out′ : List ℕ} (o : Part tables chunk from e) (s : Feeds r carry (take e chunk) from out 0 t carry′ out′) (more : r .lines < limit) (room : length out ≡ outBytes) where
   ahead : t .next ≤ e
   ahead = omega (arith, s .moves .inside, length-take-le e chunk (o .inside))
 
@@ -198,11 +198,11 @@ module _ {tables : Bool} {r : code.Run} {carry chunk : List ℕ} {from e : ℕ} 
   moves : Moves r carry chunk from (t .next) (t .run) carry′
   moves = record { kept = s .moves .kept; onward = s .moves .onward; inside = omega (arith, ahead, o .inside); after = s .moves .after ∙ ap (fed (midOf r carry)) cut }
 
-  put : Put out 0 (says (midOf r carry) part) out′ (t .at)
-  put = subst (λ (z : List ℕ). Put out 0 (says (midOf r carry) z) out′ (t .at)) cut (s .text)
+  put : Put out 0 (prints (midOf r carry) part) out′ (t .at)
+  put = subst (λ (z : List ℕ). Put out 0 (prints (midOf r carry) z) out′ (t .at)) cut (s .text)
 
   pub puts-plain : tables ≡ false → Puts tables r carry chunk from out t carry′ out′
-  puts-plain plain = record { moves = moves; onward = onward; text = subst (λ (z : Bool). Put out 0 (prints z (midOf r carry) part) out′ (t .at)) (sym plain) put; place = omega (arith, s .place, room) }
+  puts-plain plain = record { moves = moves; onward = onward; text = subst (λ (z : Bool). Put out 0 (printsWith z (midOf r carry) part) out′ (t .at)) (sym plain) put; place = omega (arith, s .place, room) }
 
   module _ (asked : tables ≡ true) where
     few : lineEnds part ≤ 1
@@ -214,27 +214,27 @@ module _ {tables : Bool} {r : code.Run} {carry chunk : List ℕ} {from e : ℕ} 
     grown : t .run .lines ≤ r .lines + 1
     grown = omega (arith, count, few, lines-few (midOf r carry) part)
 
-    pub short : t .at ≤ answerRoom
+    pub short : t .at ≤ answerBytes
     short = omega (arith, s .short, grown)
 
     pub puts-none : t .run .lines ≡ r .lines → Puts tables r carry chunk from out t carry′ out′
     puts-none same =
         let q : Quiet (midOf r carry) part = quiet (midOf r carry) part (sym count ∙ same) in
-        let text : Put out 0 (shows (midOf r carry) part) out′ (t .at) = subst (λ (z : List ℕ). Put out 0 z out′ (t .at)) (q .says ∙ sym (q .shows)) put in
-        record { moves = moves; onward = onward; text = subst (λ (z : Bool). Put out 0 (prints z (midOf r carry) part) out′ (t .at)) (sym asked) text; place = omega (arith, short) }
+        let text : Put out 0 (shows (midOf r carry) part) out′ (t .at) = subst (λ (z : List ℕ). Put out 0 z out′ (t .at)) (q .prints ∙ sym (q .shows)) put in
+        record { moves = moves; onward = onward; text = subst (λ (z : Bool). Put out 0 (printsWith z (midOf r carry) part) out′ (t .at)) (sym asked) text; place = omega (arith, short) }
 
-    pub puts-tables : (out″ : List ℕ) (to : ℕ) → (t .run .lines ≡ r .lines → ⊥) → Put out′ (t .at) (tablesText (tables-of (t .run .detector))) out″ to → to ≤ t .at + tablesRoom
+    pub puts-tables : (out″ : List ℕ) (to : ℕ) → (t .run .lines ≡ r .lines → ⊥) → Put out′ (t .at) (tablesText (tables-of (t .run .detector))) out″ to → to ≤ t .at + tablesBytes
         → Puts tables r carry chunk from out (record { run = t .run; next = t .next; at = to }) carry′ out″
     puts-tables out″ to other p w =
         let one : fed (midOf r carry) part .run .lines ≡ r .lines + 1 = omega (arith, other, count, grown, lines-up (midOf r carry) part) in
         let state : tables-of (t .run .detector) ≡ fed (midOf r carry) part .run .tables = ap (λ (m : Mid). m .run .tables) (moves .after) in
         let text : Put out 0 (shows (midOf r carry) part) out″ to = subst (λ (z : List ℕ). Put out 0 z out″ to)
-        (ap (λ (x : Tables). says (midOf r carry) part ++ tablesText x) state ∙ sym (single (midOf r carry) part one))
+        (ap (λ (x : Tables). prints (midOf r carry) part ++ tablesText x) state ∙ sym (single (midOf r carry) part one))
         (then put p) in
         record {
           moves = moves;
           onward = onward;
-          text = subst (λ (z : Bool). Put out 0 (prints z (midOf r carry) part) out″ to) (sym asked) text;
+          text = subst (λ (z : Bool). Put out 0 (printsWith z (midOf r carry) part) out″ to) (sym asked) text;
           place = omega (arith, short, w);
         }
 
@@ -251,12 +251,12 @@ unfolding closes shownOf
 closes-closed r carry (inl e) = ap (λ (h : ℕ). shownOf (runOf r) (lastLine (take h carry))) e
 closes-closed r carry (inr e) = shown-full (runOf r) (lastLine (take (r .have) carry)) (le-ltb (r .lines) limit (omega arith))
 
-pub last-closed : (r : code.Run) (carry : List ℕ) → (r .have ≡ 0) ⊎ (r .lines ≡ limit) → (tables : Bool) → ends (midOf r carry) ≡ printsLast tables (midOf r carry)
+pub last-closed : (r : code.Run) (carry : List ℕ) → (r .have ≡ 0) ⊎ (r .lines ≡ limit) → (tables : Bool) → ends (midOf r carry) ≡ endsWith tables (midOf r carry)
 last-closed r carry h true = ends-closed r carry h ∙ sym (closes-closed r carry h)
 last-closed r carry h false = refl
 
 pub open-shown : OpenShown
-unfolding closes shownOf shows shown fed step
+unfolding closes shownOf shows showsByte fed step
 open-shown m h k = go (m .part) (m .run) h (lt-ltb (m .run .lines) limit k)
   where
     go : (p : List ℕ) (r : Run) → (p ≡ [] → ⊥) → ltb (r .lines) limit ≡ true → shows (mid p r) (lineFeed ∷ []) ++ closes (fed (mid p r) (lineFeed ∷ [])) ≡ closes (mid p r)

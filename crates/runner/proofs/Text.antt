@@ -9,12 +9,12 @@ use lib.ListN.{take}
 use Rattle.text.specs.Fields.{onFirst}
 use Rattle.listing.specs.Listing.{tablesText}
 use Rattle.text.specs.Bytes.{lineFeed}
-use Rattle.text.specs.Lines.{linesOf, carrySize}
+use Rattle.text.specs.Lines.{linesOf, carryBytes}
 use Rattle.transcript.specs.Replay.{Run, Result, limit, begun, after, lineText, resultText}
 use Rattle.transcript.specs.Chunks.{Mid, mid, start, step, fed, lastLine, together}
 use Rattle.transcript.proofs.Turning.{after-cut}
 use Rattle.transcript.proofs.Text.{fed-joined, cut-result, cut-more}
-use Rattle.runner.specs.Shown.{lineShown, shownOf, shownText, shown, shows, closes, showsAll, ShownTheorem}
+use Rattle.runner.specs.Shown.{lineShown, shownOf, shownText, showsByte, shows, closes, showsAll, ShownTheorem}
 use Rattle.runner.specs.Promises.{lineEnds}
 use Rattle.runner.proofs.Lines.{line-ends-more, shown-full}
 
@@ -32,11 +32,11 @@ shows-joined m (t ∷ ts) = ap (λ (x : List ℕ). shows m t ++ x) (shows-joined
 
 -- ---- a line cut where the carry ends shows as the whole line
 
-line-cut : (r : Run) (p : List ℕ) → lineShown r (take carrySize p) ≡ lineShown r p
+line-cut : (r : Run) (p : List ℕ) → lineShown r (take carryBytes p) ≡ lineShown r p
 unfolding lineShown lineText
 line-cut r p = rw (after-cut r p) (ap (λ (a : Result). resultText (r .lines + 1) a ++ tablesText (after r p .tables)) (cut-result (r .tables) p))
 
-last-cut : (r : Run) (p : List ℕ) → shownOf r (lastLine (take carrySize p)) ≡ shownOf r (lastLine p)
+last-cut : (r : Run) (p : List ℕ) → shownOf r (lastLine (take carryBytes p)) ≡ shownOf r (lastLine p)
 unfolding shownOf
 last-cut r [] = refl
 last-cut r (b ∷ p) = rw (line-cut r (b ∷ p), after-cut r (b ∷ p)) refl
@@ -73,11 +73,11 @@ unfolding shownOf
 shown-line r l ls e = rw e
 
 Whole : List ℕ → Type 0
-Whole t = (p : List ℕ) → lineEnds p ≡ 0 → (r : Run) → shows (mid (take carrySize p) r) t ++ closes (fed (mid (take carrySize p) r) t) ≡ shownOf r (linesOf (p ++ t))
+Whole t = (p : List ℕ) → lineEnds p ≡ 0 → (r : Run) → shows (mid (take carryBytes p) r) t ++ closes (fed (mid (take carryBytes p) r) t) ≡ shownOf r (linesOf (p ++ t))
 
 whole-byte : (free feed : Bool) (b : ℕ) (t : List ℕ) (p : List ℕ) (h : lineEnds p ≡ 0) (r : Run) → ltb (r .lines) limit ≡ free → eqb b lineFeed ≡ feed → Whole t
-    → shows (mid (take carrySize p) r) (b ∷ t) ++ closes (fed (mid (take carrySize p) r) (b ∷ t)) ≡ shownOf r (linesOf (p ++ (b ∷ t)))
-unfolding Whole shows shown step fed lineEnds
+    → shows (mid (take carryBytes p) r) (b ∷ t) ++ closes (fed (mid (take carryBytes p) r) (b ∷ t)) ≡ shownOf r (linesOf (p ++ (b ∷ t)))
+unfolding Whole shows showsByte step fed lineEnds
 whole-byte false feed b t p h r e f ih = rw e (ih p h r ∙ shown-full r _ e ∙ sym (shown-full r _ e))
 whole-byte true true b t p h r e f ih =
     rw (e, f, line-cut r p, after-cut r p)

@@ -2,19 +2,19 @@
 use Prim.Native.Nat.{ℕ}
 use mathlib.Core.Bool.{Bool, true, false}
 use mathlib.Core.List.{List}
-use Rattle.transcript.specs.Chunks.{Mid, says, ends}
+use Rattle.transcript.specs.Chunks.{Mid, prints, ends}
 use Rattle.runner.specs.Shown.{shows, closes}
 
 -- the bytes of the buffer for answers, tables and the sums
-abbrev pub space : ℕ
-space = 131072
+abbrev pub outBytes : ℕ
+outBytes = 131072
 
 -- what is printed for a chunk
-abbrev pub prints : Bool → Mid → List ℕ → List ℕ
-prints true = shows
-prints false = says
+abbrev pub printsWith : Bool → Mid → List ℕ → List ℕ
+printsWith true = shows
+printsWith false = prints
 
 -- and at the text's end
-abbrev pub printsLast : Bool → Mid → List ℕ
-printsLast true = closes
-printsLast false = ends
+abbrev pub endsWith : Bool → Mid → List ℕ
+endsWith true = closes
+endsWith false = ends

@@ -11,7 +11,7 @@ use Rattle.transcript.specs.Code.{midOf, between}
 use Rattle.transcript.specs.Promises.{Moves}
 use Rattle.transcript.specs.declared.run.Run.{Run}
 use Rattle.transcript.specs.declared.run.Turned.{Turned}
-use Rattle.runner.specs.Code.{space, prints}
+use Rattle.runner.specs.Code.{outBytes, printsWith}
 
 -- how many lines end in a text
 unfoldable pub lineEnds : List ℕ → ℕ
@@ -28,5 +28,5 @@ pub record Part (tables : Bool) (chunk : List ℕ) (from to : ℕ) : Type 0 wher
 pub record Puts (tables : Bool) (r : Run) (carry chunk : List ℕ) (from : ℕ) (out : List ℕ) (t : Turned) (carry′ out′ : List ℕ) : Type 0 where
   pub moves : Moves r carry chunk from (t .next) (t .run) carry′
   pub onward : from < t .next
-  pub text : Put out 0 (prints tables (midOf r carry) (between from (t .next) chunk)) out′ (t .at)
-  pub place : t .at ≤ space
+  pub text : Put out 0 (printsWith tables (midOf r carry) (between from (t .next) chunk)) out′ (t .at)
+  pub place : t .at ≤ outBytes

@@ -26,13 +26,13 @@ shownText t = shownOf begun (linesOf t)
 -- ---- the same in chunks, as replay's
 
 -- for a byte more
-unfoldable pub shown : Mid → ℕ → List ℕ
-shown m b = cond (ltb (m .run .lines) limit) (cond (eqb b lineFeed) (lineShown (m .run) (m .part)) []) []
+unfoldable pub showsByte : Mid → ℕ → List ℕ
+showsByte m b = cond (ltb (m .run .lines) limit) (cond (eqb b lineFeed) (lineShown (m .run) (m .part)) []) []
 
 -- for a chunk
 unfoldable pub shows : Mid → List ℕ → List ℕ
 shows m [] = []
-shows m (b ∷ t) = shown m b ++ shows (step m b) t
+shows m (b ∷ t) = showsByte m b ++ shows (step m b) t
 
 -- at the text's end
 unfoldable pub closes : Mid → List ℕ

@@ -12,14 +12,14 @@ ghost use Prim.Native.Nat.{_<_};
 ghost use lib.IntN.{pos};
 ghost use lib.ListN.{length, take};
 ghost use lib.Seq.{sets};
-ghost use Rattle.detector.specs.Refusals.{reportRoom};
+ghost use Rattle.detector.specs.Refusals.{bufferBytes};
 ghost use Rattle.text.specs.Bytes.{lineFeed};
 ghost use Rattle.transcript.specs.Replay.{limit};
-ghost use Rattle.text.specs.Lines.{carrySize};
+ghost use Rattle.text.specs.Lines.{carryBytes};
 ghost use Rattle.transcript.specs.Chunks.{fed};
 ghost use Rattle.transcript.specs.Promises.{IsRun};
 ghost use Rattle.transcript.specs.Code.{midOf};
-ghost use Rattle.runner.specs.Code.{space, printsLast};
+ghost use Rattle.runner.specs.Code.{outBytes, endsWith};
 
 // No contract can say what is read: this count of turns bounds the loop that reads.
 const TURNS: u64 = 18446744073709551615;
@@ -32,9 +32,9 @@ struct Held {
 
 // How a script ended: with its sums, or where no more could be read or written.
 pub(crate) enum Ending {
-    Summed,
-    Unread,
-    Unwritten,
+    Ended,
+    NotRead,
+    NotWritten,
 }
 
 // A chunk, as far as lines are read; what is put is written before more is.
@@ -46,7 +46,7 @@ fn take_chunk(
     out: &mut [u8],
     buf: &mut [u8],
 ) -> Held
-    requires { ⌜ IsRun run (now carry) × (length (now out) ≡ space) × (length (now buf) ≡ reportRoom) ⌝ }
+    requires { ⌜ IsRun run (now carry) × (length (now out) ≡ outBytes) × (length (now buf) ≡ bufferBytes) ⌝ }
     ensures { λ r. ⌜ IsRun (r .run) (now (carry .exit)) × (r .open ≡ true → midOf (r .run) (now (carry .exit)) ≡ fed (midOf run (now (carry .entry))) (now (chunk .entry))) ⌝ }
 {
     let mut r = run;
@@ -71,14 +71,14 @@ fn take_chunk(
 
 // The sums, where no line is left to answer: with and without tables the same text.
 fn end(run: Run, carry: &[u8], out: &mut [u8]) -> Ending
-    requires { ⌜ IsRun run (now carry) × ((run .have ≡ 0) ⊎ (run .lines ≡ limit)) × (length (now out) ≡ space) ⌝ }
-    ensures { λ _. ⌜ ((tables : Bool) → now (out .exit) ≡ sets (now (out .entry)) 0 (printsLast tables (midOf run (now (carry .entry))))) ⌝ }
+    requires { ⌜ IsRun run (now carry) × ((run .have ≡ 0) ⊎ (run .lines ≡ limit)) × (length (now out) ≡ outBytes) ⌝ }
+    ensures { λ _. ⌜ ((tables : Bool) → now (out .exit) ≡ sets (now (out .entry)) 0 (endsWith tables (midOf run (now (carry .entry))))) ⌝ }
 {
     let to = finish_within(run, carry, out, 0);
     if io::write_all(libc::STDOUT_FILENO, &out[..to]) {
-        return Ending::Summed;
+        return Ending::Ended;
     }
-    Ending::Unwritten
+    Ending::NotWritten
 }
 
 // What is read, or, when the input is over, the line feed that the last line lacks.
@@ -102,7 +102,7 @@ pub(crate) fn run_script(
     out: &mut [u8],
     buf: &mut [u8],
 ) -> Ending
-    requires { ⌜ (0 < length (now inp)) × (length (now carry) ≡ carrySize) × (length (now out) ≡ space) × (length (now buf) ≡ reportRoom) ⌝ }
+    requires { ⌜ (0 < length (now inp)) × (length (now carry) ≡ carryBytes) × (length (now out) ≡ outBytes) × (length (now buf) ≡ bufferBytes) ⌝ }
 {
     let mut r = begin();
     let mut over = false;
@@ -116,7 +116,7 @@ pub(crate) fn run_script(
         }
         let got = next_chunk(fd, over, inp);
         if got < 0 {
-            return Ending::Unread;
+            return Ending::NotRead;
         }
         let k = io::count(got, inp);
         if k == 0 {
@@ -124,11 +124,11 @@ pub(crate) fn run_script(
         }
         let t = take_chunk(tables, r, carry, &inp[..k], out, buf);
         if !t.open {
-            return Ending::Unwritten;
+            return Ending::NotWritten;
         }
         let n = t.run;
         r = n;
         turns = turns - 1;
     }
-    Ending::Unread
+    Ending::NotRead
 }

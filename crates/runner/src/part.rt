@@ -7,10 +7,10 @@ use transcript::feed_within;
 ghost use mathlib.Core.Path.{_≡_};
 ghost use Prim.Native.Nat.{_<_};
 ghost use lib.ListN.{length};
-ghost use Rattle.detector.specs.Refusals.{reportRoom};
+ghost use Rattle.detector.specs.Refusals.{bufferBytes};
 ghost use Rattle.transcript.specs.Replay.{limit};
 ghost use Rattle.transcript.specs.Promises.{IsRun};
-ghost use Rattle.runner.specs.Code.{space};
+ghost use Rattle.runner.specs.Code.{outBytes};
 ghost use Rattle.runner.specs.Promises.{Part, Puts};
 
 // With tables: behind the line feed of the line that starts at from, or the chunk's end.
@@ -40,7 +40,7 @@ pub(crate) fn put_part(
     buf: &mut [u8],
 ) -> Turned
     requires { ⌜ IsRun run (now carry) × (run .lines < limit) × (from < length (now chunk)) ⌝ }
-    requires { ⌜ (length (now out) ≡ space) × (length (now buf) ≡ reportRoom) ⌝ }
+    requires { ⌜ (length (now out) ≡ outBytes) × (length (now buf) ≡ bufferBytes) ⌝ }
     ensures { λ r. ⌜ Puts tables run (now (carry .entry)) (now (chunk .entry)) from (now (out .entry)) r (now (carry .exit)) (now (out .exit)) ⌝ }
 {
     let lines = run.lines;

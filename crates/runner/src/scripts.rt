@@ -2,22 +2,22 @@
 use crate::chunks::Ending;
 use crate::chunks::run_script;
 use detector::Detector;
-use text::CARRY;
+use text::CARRY_BYTES;
 ghost use mathlib.Core.Path.{_≡_};
 ghost use Prim.Native.Nat.{_<_};
 ghost use lib.ListN.{length};
-ghost use Rattle.detector.specs.Refusals.{reportRoom};
-ghost use Rattle.text.specs.Lines.{carrySize};
-ghost use Rattle.runner.specs.Code.{space};
+ghost use Rattle.detector.specs.Refusals.{bufferBytes};
+ghost use Rattle.text.specs.Lines.{carryBytes};
+ghost use Rattle.runner.specs.Code.{outBytes};
 
 // Room for a line's answer and its tables, and for the sums.
-const SPACE: usize = 131072;
+const OUT_BYTES: usize = 131072;
 
 // Zeros.
-fn out_buffer() -> [u8; SPACE]
-    ensures { λ r. ⌜ space ≡ length r ⌝ }
+fn out_buffer() -> [u8; OUT_BYTES]
+    ensures { λ r. ⌜ outBytes ≡ length r ⌝ }
 {
-    [0; SPACE]
+    [0; OUT_BYTES]
 }
 
 // Two lines on standard error: which script cannot be read and why, and what the program takes.
@@ -33,14 +33,14 @@ fn refuse(program: &[u8], name: &[u8]) {
 }
 
 // Says what failed, and answers whether more can be written.
-fn tell(program: &[u8], name: &[u8], ending: Ending) -> bool {
+fn explain(program: &[u8], name: &[u8], ending: Ending) -> bool {
     match ending {
-        Ending::Summed => true,
-        Ending::Unread => {
+        Ending::Ended => true,
+        Ending::NotRead => {
             refuse(program, name);
             true
         }
-        Ending::Unwritten => {
+        Ending::NotWritten => {
             io::write_all(libc::STDERR_FILENO, program);
             os::fail(b": cannot write");
             false
@@ -57,7 +57,7 @@ fn run_file(
     out: &mut [u8],
     buf: &mut [u8],
 ) -> bool
-    requires { ⌜ (0 < length (now inp)) × (length (now carry) ≡ carrySize) × (length (now out) ≡ space) × (length (now buf) ≡ reportRoom) ⌝ }
+    requires { ⌜ (0 < length (now inp)) × (length (now carry) ≡ carryBytes) × (length (now out) ≡ outBytes) × (length (now buf) ≡ bufferBytes) ⌝ }
 {
     let mut path = io::buffer();
     let n = os::arg(i, &mut path);
@@ -67,7 +67,7 @@ fn run_file(
         return true;
     }
     let ending = run_script(tables, fd, inp, carry, out, buf);
-    let more = tell(program, &path[..n], ending);
+    let more = explain(program, &path[..n], ending);
     libc::close(fd);
     more
 }
@@ -76,8 +76,8 @@ fn run_file(
 pub fn run_scripts(program: &[u8], tables: bool) {
     let mut inp = io::large_buffer();
     let mut out = out_buffer();
-    let mut carry = [0u8; CARRY];
-    let mut buf = [0u8; Detector::REPORT_BYTES];
+    let mut carry = [0u8; CARRY_BYTES];
+    let mut buf = [0u8; Detector::BUFFER_BYTES];
     let n = os::arg_count();
     if n < 2 {
         let ending = run_script(
@@ -88,7 +88,7 @@ pub fn run_scripts(program: &[u8], tables: bool) {
             &mut out,
             &mut buf,
         );
-        tell(program, b"standard input", ending);
+        explain(program, b"standard input", ending);
         return;
     }
     let mut i: usize = 1;

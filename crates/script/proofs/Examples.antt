@@ -34,34 +34,34 @@ notify : lineOf (text "c1\t0") ≡ line.Event (event.CondvarNotifyOne 0)
 unfolding lineOf fields parts shapeOf afterWord afterOne afterTwo numberOf digitsFrom outcomeOf same
 notify = refl
 
-four-digits : lineOf (text "mc\t1000\t0") ≡ line.Unread
+four-digits : lineOf (text "mc\t1000\t0") ≡ line.Unreadable
 unfolding lineOf fields parts shapeOf afterWord afterOne afterTwo numberOf digitsFrom outcomeOf same
 four-digits = refl
 
-leading-zero : lineOf (text "mc\t00\t0") ≡ line.Unread
+leading-zero : lineOf (text "mc\t00\t0") ≡ line.Unreadable
 unfolding lineOf fields parts shapeOf afterWord afterOne afterTwo numberOf digitsFrom outcomeOf same
 leading-zero = refl
 
-hint-for-rt : lineOf (text "rt\t32\t64\t5") ≡ line.Unread
+hint-for-rt : lineOf (text "rt\t32\t64\t5") ≡ line.Unreadable
 unfolding lineOf fields parts shapeOf afterWord afterOne afterTwo numberOf digitsFrom outcomeOf same
 hint-for-rt = refl
 
-empty : lineOf (text "") ≡ line.Unread
+empty : lineOf (text "") ≡ line.Unreadable
 unfolding lineOf fields parts shapeOf afterWord afterOne afterTwo numberOf digitsFrom outcomeOf same
 empty = refl
 
-return : lineOf (text "md\t5\r") ≡ line.Unread
+return : lineOf (text "md\t5\r") ≡ line.Unreadable
 unfolding lineOf fields parts shapeOf afterWord afterOne afterTwo numberOf digitsFrom outcomeOf same
 return = refl
 
-upper-case : lineOf (text "MD\t5") ≡ line.Unread
+upper-case : lineOf (text "MD\t5") ≡ line.Unreadable
 unfolding lineOf fields parts shapeOf afterWord afterOne afterTwo numberOf digitsFrom outcomeOf same
 upper-case = refl
 
-extra-tab : lineOf (text "md\t5\t") ≡ line.Unread
+extra-tab : lineOf (text "md\t5\t") ≡ line.Unreadable
 unfolding lineOf fields parts shapeOf afterWord afterOne afterTwo numberOf digitsFrom outcomeOf same
 extra-tab = refl
 
-missing-field : lineOf (text "mc\t5") ≡ line.Unread
+missing-field : lineOf (text "mc\t5") ≡ line.Unreadable
 unfolding lineOf fields parts shapeOf afterWord afterOne afterTwo numberOf digitsFrom outcomeOf same
 missing-field = refl

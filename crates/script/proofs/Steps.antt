@@ -20,7 +20,7 @@ use Rattle.script.specs.declared.line.Line.the-variants as line
 use Rattle.text.proofs.Cut.{field-then, field-last, field-more}
 
 module _ (s : Shape) (l f : List ℕ) (at : ℕ) (i : f ≡ fieldAt l at) (a : ℕ) where
-  pub word-bad : numberOf f ≡ number.Bad → line.Unread ≡ afterWord s (fields (drop at l))
+  pub word-bad : numberOf f ≡ number.Bad → line.Unreadable ≡ afterWord s (fields (drop at l))
   unfolding afterWord
   word-bad e = rw (field-then l f at i .1, e)
 
@@ -33,7 +33,7 @@ module _ (s : Shape) (l f : List ℕ) (at : ℕ) (i : f ≡ fieldAt l at) (a : �
   word-more e g = rw (field-more l f at i g, e)
 
   module _ (b : ℕ) where
-    pub one-bad : numberOf f ≡ number.Bad → line.Unread ≡ afterOne s (fields (drop at l)) a
+    pub one-bad : numberOf f ≡ number.Bad → line.Unreadable ≡ afterOne s (fields (drop at l)) a
     unfolding afterOne
     one-bad e = rw (field-then l f at i .1, e)
 
@@ -45,11 +45,11 @@ module _ (s : Shape) (l f : List ℕ) (at : ℕ) (i : f ≡ fieldAt l at) (a : �
     unfolding afterOne
     one-more e g = rw (field-more l f at i g, e)
 
-    pub two-many : at + length f < length l → line.Unread ≡ afterTwo s (fields (drop at l)) a b
+    pub two-many : at + length f < length l → line.Unreadable ≡ afterTwo s (fields (drop at l)) a b
     unfolding afterTwo
     two-many g = rw (field-more l f at i g, field-then l (fieldAt l (at + length f + 1)) (at + length f + 1) refl .1)
 
-    pub two-bad : outcomeOf f ≡ outcome.Bad → at ≤ length l → length l ≤ at + length f → line.Unread ≡ afterTwo s (fields (drop at l)) a b
+    pub two-bad : outcomeOf f ≡ outcome.Bad → at ≤ length l → length l ≤ at + length f → line.Unreadable ≡ afterTwo s (fields (drop at l)) a b
     unfolding afterTwo
     two-bad e h g = rw (field-last l f at i h g, e)
 
@@ -57,12 +57,12 @@ module _ (s : Shape) (l f : List ℕ) (at : ℕ) (i : f ≡ fieldAt l at) (a : �
     unfolding afterTwo
     two-is o e h g = rw (field-last l f at i h g, e)
 
-pub line-long : (l : List ℕ) → 40 < length l → line.Unread ≡ lineOf l
+pub line-long : (l : List ℕ) → 40 < length l → line.Unreadable ≡ lineOf l
 unfolding lineOf
 line-long l h = rw (lt-leb (length l) 40 h)
 
 module _ (l f : List ℕ) (i : f ≡ fieldAt l 0) (h : length l ≤ 40) where
-  pub line-word : length l ≤ length f → line.Unread ≡ lineOf l
+  pub line-word : length l ≤ length f → line.Unreadable ≡ lineOf l
   unfolding lineOf afterWord
   line-word g = rw (le-leb (length l) 40 h, field-last l f 0 i (omega arith) (omega arith))
 

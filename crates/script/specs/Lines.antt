@@ -18,35 +18,35 @@ use Rattle.script.specs.declared.line.Line.the-variants as line
 
 abbrev pub onNumber : NumberRead → (ℕ → Line) → Line
 onNumber (number.Is a) f = f a
-onNumber number.Bad f = line.Unread
+onNumber number.Bad f = line.Unreadable
 
 abbrev pub onOutcome : OutcomeRead → (Outcome → Line) → Line
 onOutcome (outcome.Is o) f = f o
-onOutcome outcome.Bad f = line.Unread
+onOutcome outcome.Bad f = line.Unreadable
 
 -- the fields behind a word of shape s and two numbers; behind it and one number; behind it alone
 unfoldable pub afterTwo : Shape → List (List ℕ) → ℕ → ℕ → Line
 afterTwo s [] a b = s .two a b
 afterTwo s (f ∷ []) a b = onOutcome (outcomeOf f) (s .three a b)
-afterTwo s (f ∷ g ∷ fs) a b = line.Unread
+afterTwo s (f ∷ g ∷ fs) a b = line.Unreadable
 
 unfoldable pub afterOne : Shape → List (List ℕ) → ℕ → Line
 afterOne s [] a = s .one a
 afterOne s (f ∷ fs) a = onNumber (numberOf f) (afterTwo s fs a)
 
 unfoldable pub afterWord : Shape → List (List ℕ) → Line
-afterWord s [] = line.Unread
+afterWord s [] = line.Unreadable
 afterWord s (f ∷ fs) = onNumber (numberOf f) (afterOne s fs)
 
 abbrev pub recordOf : List (List ℕ) → Line
-recordOf [] = line.Unread
+recordOf [] = line.Unreadable
 recordOf (w ∷ fs) = afterWord (shapeOf w) fs
 
 -- the line l, without its line feed
 unfoldable pub lineOf : List ℕ → Line
-lineOf l = cond (leb (length l) 40) (recordOf (fields l)) line.Unread
+lineOf l = cond (leb (length l) 40) (recordOf (fields l)) line.Unreadable
 
 -- a line's refusal by document 01: 1 where it does not read, else none, here 0
 abbrev pub lineRefusal : Line → ℕ
 lineRefusal (line.Event e) = 0
-lineRefusal line.Unread = 1
+lineRefusal line.Unreadable = 1

@@ -73,5 +73,5 @@ abbrev pub Within : ℕ → Event → Type 0
 Within m e = Below m (numbersOf (partsOf e))
 
 -- room for an event with any numbers of 64 bits
-abbrev pub eventRoom : ℕ
-eventRoom = 65
+abbrev pub eventBytes : ℕ
+eventBytes = 65

@@ -46,32 +46,32 @@ pub record Shape : Type 0 where
 
 -- a lock or a condvar; thread and lock; thread, lock and outcome; the same with no hint; thread, condvar and lock
 abbrev pub l : (ℕ → Event) → Shape
-l e = record { one = λ a. line.Event (e a); two = λ a b. line.Unread; three = λ a b o. line.Unread }
+l e = record { one = λ a. line.Event (e a); two = λ a b. line.Unreadable; three = λ a b o. line.Unreadable }
 
 abbrev pub tl : (ℕ → ℕ → Event) → Shape
-tl e = record { one = λ a. line.Unread; two = λ a b. line.Event (e a b); three = λ a b o. line.Unread }
+tl e = record { one = λ a. line.Unreadable; two = λ a b. line.Event (e a b); three = λ a b o. line.Unreadable }
 
 abbrev pub tlo : (ℕ → ℕ → Outcome → Event) → Shape
-tlo e = record { one = λ a. line.Unread; two = λ a b. line.Unread; three = λ a b o. line.Event (e a b o) }
+tlo e = record { one = λ a. line.Unreadable; two = λ a b. line.Unreadable; three = λ a b o. line.Event (e a b o) }
 
 abbrev pub noHint : (Tried → Event) → Outcome → Line
 noHint e outcome.Took = line.Event (e tried.Taken)
 noHint e outcome.Blocked = line.Event (e tried.Missed)
-noHint e (outcome.Hinted h) = line.Unread
+noHint e (outcome.Hinted h) = line.Unreadable
 
 abbrev pub tlx : (ℕ → ℕ → Tried → Event) → Shape
-tlx e = record { one = λ a. line.Unread; two = λ a b. line.Unread; three = λ a b o. noHint (e a b) o }
+tlx e = record { one = λ a. line.Unreadable; two = λ a b. line.Unreadable; three = λ a b o. noHint (e a b) o }
 
 abbrev pub asNumber : (ℕ → Event) → Outcome → Line
-asNumber e outcome.Took = line.Unread
-asNumber e outcome.Blocked = line.Unread
+asNumber e outcome.Took = line.Unreadable
+asNumber e outcome.Blocked = line.Unreadable
 asNumber e (outcome.Hinted n) = line.Event (e n)
 
 abbrev pub tcl : (ℕ → ℕ → ℕ → Event) → Shape
-tcl e = record { one = λ a. line.Unread; two = λ a b. line.Unread; three = λ a b o. asNumber (e a b) o }
+tcl e = record { one = λ a. line.Unreadable; two = λ a b. line.Unreadable; three = λ a b o. asNumber (e a b) o }
 
 abbrev pub noWord : Shape
-noWord = record { one = λ a. line.Unread; two = λ a b. line.Unread; three = λ a b o. line.Unread }
+noWord = record { one = λ a. line.Unreadable; two = λ a b. line.Unreadable; three = λ a b o. line.Unreadable }
 
 abbrev pub shape : Word → Shape
 shape ma = tlo event.MutexAttempt

@@ -6,5 +6,5 @@ mod words;
 
 pub use line::Line;
 pub use line::read_line;
-pub use print::EVENT_ROOM;
+pub use print::EVENT_BYTES;
 pub use print::put_event;

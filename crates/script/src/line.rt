@@ -1,11 +1,11 @@
 // A line, without its line feed, to its event.
-use text::field;
-use text::NumberRead;
-use text::read_number;
 use crate::outcome::OutcomeRead;
 use crate::outcome::read_outcome;
 use crate::words;
 use detector::Event;
+use text::NumberRead;
+use text::field;
+use text::read_number;
 use waits::Outcome;
 use waits::Tried;
 ghost use mathlib.Core.Path.{_≡_};
@@ -17,7 +17,7 @@ ghost use Rattle.script.specs.Lines.{afterTwo, afterOne, afterWord, line
 
 pub enum Line {
     Event(Event),
-    Unread,
+    Unreadable,
 }
 
 // A word with one number behind it.
@@ -32,7 +32,7 @@ fn one(w: &[u8], a: usize) -> Line
         words::CD => Line::Event(Event::CondvarExit(a)),
         words::C1 => Line::Event(Event::CondvarNotifyOne(a)),
         words::CA => Line::Event(Event::CondvarNotifyAll(a)),
-        _ => Line::Unread,
+        _ => Line::Unreadable,
     }
 }
 
@@ -48,7 +48,7 @@ fn two(w: &[u8], t: usize, l: usize) -> Line
         words::RR => Line::Event(Event::RwReadReleased(t, l)),
         words::WC => Line::Event(Event::RwWriteAcquired(t, l)),
         words::WR => Line::Event(Event::RwWriteReleased(t, l)),
-        _ => Line::Unread,
+        _ => Line::Unreadable,
     }
 }
 
@@ -59,7 +59,7 @@ fn read_try(t: usize, l: usize, o: Outcome) -> Line
     match o {
         Outcome::Took => Line::Event(Event::RwReadTry(t, l, Tried::Taken)),
         Outcome::Blocked => Line::Event(Event::RwReadTry(t, l, Tried::Missed)),
-        Outcome::Hinted(_) => Line::Unread,
+        Outcome::Hinted(_) => Line::Unreadable,
     }
 }
 
@@ -68,8 +68,8 @@ fn wait_begin(t: usize, c: usize, o: Outcome) -> Line
     ensures { λ r. ⌜ r ≡ asNumber (Event.CondvarWaitBegin t c) o ⌝ }
 {
     match o {
-        Outcome::Took => Line::Unread,
-        Outcome::Blocked => Line::Unread,
+        Outcome::Took => Line::Unreadable,
+        Outcome::Blocked => Line::Unreadable,
         Outcome::Hinted(l) => Line::Event(Event::CondvarWaitBegin(t, c, l)),
     }
 }
@@ -78,8 +78,8 @@ fn wait_end(t: usize, c: usize, o: Outcome) -> Line
     ensures { λ r. ⌜ r ≡ asNumber (Event.CondvarWaitEnd t c) o ⌝ }
 {
     match o {
-        Outcome::Took => Line::Unread,
-        Outcome::Blocked => Line::Unread,
+        Outcome::Took => Line::Unreadable,
+        Outcome::Blocked => Line::Unreadable,
         Outcome::Hinted(l) => Line::Event(Event::CondvarWaitEnd(t, c, l)),
     }
 }
@@ -96,7 +96,7 @@ fn three(w: &[u8], a: usize, b: usize, o: Outcome) -> Line
         words::RT => read_try(a, b, o),
         words::CB => wait_begin(a, b, o),
         words::CE => wait_end(a, b, o),
-        _ => Line::Unread,
+        _ => Line::Unreadable,
     }
 }
 
@@ -107,11 +107,11 @@ fn after_two(line: &[u8], w: &[u8], a: usize, b: usize, at: usize) -> Line
 {
     let f = field(line, at);
     if at + f.len() < line.len() {
-        return Line::Unread;
+        return Line::Unreadable;
     }
     let x = read_outcome(f);
     let OutcomeRead::Is(o) = x else {
-        return Line::Unread;
+        return Line::Unreadable;
     };
     three(w, a, b, o)
 }
@@ -125,7 +125,7 @@ fn after_one(line: &[u8], w: &[u8], a: usize, at: usize) -> Line
     let e = at + f.len();
     let x = read_number(f);
     let NumberRead::Is(b) = x else {
-        return Line::Unread;
+        return Line::Unreadable;
     };
     if e < line.len() {
         return after_two(line, w, a, b, e + 1);
@@ -142,7 +142,7 @@ fn after_word(line: &[u8], w: &[u8], at: usize) -> Line
     let e = at + f.len();
     let x = read_number(f);
     let NumberRead::Is(a) = x else {
-        return Line::Unread;
+        return Line::Unreadable;
     };
     if e < line.len() {
         return after_one(line, w, a, e + 1);
@@ -155,12 +155,12 @@ pub fn read_line(line: &[u8]) -> Line
     ensures { λ r. ⌜ r ≡ lineOf (now (line .entry)) ⌝ }
 {
     if line.len() > 40 {
-        return Line::Unread;
+        return Line::Unreadable;
     }
     let w = field(line, 0);
     let e = w.len();
     if e < line.len() {
         return after_word(line, w, e + 1);
     }
-    Line::Unread
+    Line::Unreadable
 }

@@ -1,9 +1,9 @@
 // An event to its line, put into a buffer that the caller lends.
 use crate::words;
+use detector::Event;
 use text::put_byte;
 use text::put_bytes;
 use text::put_field;
-use detector::Event;
 use waits::Outcome;
 use waits::Tried;
 ghost use mathlib.Core.Path.{_≡_};
@@ -13,7 +13,7 @@ ghost use Rattle.script.specs.Printed.{asOutcome, partsOf, outcomeText, 
 ghost use Rattle.script.specs.Code.{letters, keyed};
 
 // Room for an event with any numbers.
-pub const EVENT_ROOM: usize = 65;
+pub const EVENT_BYTES: usize = 65;
 
 // A word and what stands behind it.
 pub enum Record {

@@ -6,16 +6,16 @@ use native.Mathlib.Omega.{arith}
 use native.Mathlib.Numerals.{add-one}
 use lib.ListN.{length, take, drop, getD, set, length-take, drop-of-length-le}
 use lib.Seq.{drop-cons, take-all, take-append-le, append-snoc, take-suc-set}
-use Rattle.text.specs.Lines.{carrySize}
+use Rattle.text.specs.Lines.{carryBytes}
 
 -- nothing of the part is left, or no room
-pub kept-all : (carry part : List ℕ) (h i : ℕ) → h ≤ carrySize → length part ≤ i → take h carry ≡ take carrySize (take h carry ++ drop i part)
-kept-all carry part h i g e = rw (drop-of-length-le part e, append-nil) (sym (take-all carrySize (take h carry) (omega (arith, length-take h carry))))
+pub kept-all : (carry part : List ℕ) (h i : ℕ) → h ≤ carryBytes → length part ≤ i → take h carry ≡ take carryBytes (take h carry ++ drop i part)
+kept-all carry part h i g e = rw (drop-of-length-le part e, append-nil) (sym (take-all carryBytes (take h carry) (omega (arith, length-take h carry))))
 
-pub kept-full : (carry x : List ℕ) (h : ℕ) → length carry ≡ carrySize → h ≡ carrySize → take h carry ≡ take carrySize (take h carry ++ x)
+pub kept-full : (carry x : List ℕ) (h : ℕ) → length carry ≡ carryBytes → h ≡ carryBytes → take h carry ≡ take carryBytes (take h carry ++ x)
 kept-full carry x h n e =
-    let k : carrySize ≤ length (take h carry) = omega (arith, length-take h carry) in
-    sym (take-append-le carrySize (take h carry) x k ∙ take-all carrySize (take h carry) (omega (arith, length-take h carry)))
+    let k : carryBytes ≤ length (take h carry) = omega (arith, length-take h carry) in
+    sym (take-append-le carryBytes (take h carry) x k ∙ take-all carryBytes (take h carry) (omega (arith, length-take h carry)))
 
 -- a byte more
 pub kept-more : (carry part : List ℕ) (h i : ℕ) → h < length carry → i < length part

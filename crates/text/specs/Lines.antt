@@ -12,5 +12,5 @@ linesOf [] = []
 linesOf (b ∷ t) = cond (eqb b lineFeed) ([] ∷ linesOf t) (onFirst b (linesOf t))
 
 -- the bytes that are carried of a line: one more than a line may have tells that it is too long
-abbrev pub carrySize : ℕ
-carrySize = 41
+abbrev pub carryBytes : ℕ
+carryBytes = 41

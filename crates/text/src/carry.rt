@@ -3,20 +3,20 @@ ghost use mathlib.Core.Path.{_≡_};
 ghost use mathlib.Core.List.{_++_};
 ghost use Prim.Native.Nat.{_≤_};
 ghost use lib.ListN.{length, take};
-ghost use Rattle.text.specs.Lines.{carrySize};
+ghost use Rattle.text.specs.Lines.{carryBytes};
 
 // The bytes that are carried of a line: one more than a line may have tells that it is too long.
-pub const CARRY: usize = 41;
+pub const CARRY_BYTES: usize = 41;
 
 // The part goes behind what is carried, as far as there is room.
 pub fn keep(carry: &mut [u8], have: usize, part: &[u8]) -> usize
-    requires { ⌜ (length (now carry) ≡ carrySize) × (have ≤ carrySize) ⌝ }
-    ensures { λ r. ⌜ (r ≤ carrySize) × (take r (now (carry .exit)) ≡ take carrySize (take have (now (carry .entry)) ++ now (part .entry))) ⌝ }
+    requires { ⌜ (length (now carry) ≡ carryBytes) × (have ≤ carryBytes) ⌝ }
+    ensures { λ r. ⌜ (r ≤ carryBytes) × (take r (now (carry .exit)) ≡ take carryBytes (take have (now (carry .entry)) ++ now (part .entry))) ⌝ }
 {
     let mut h = have;
     let mut i = 0;
     while i < part.len() {
-        if h == CARRY {
+        if h == CARRY_BYTES {
             return h;
         }
         carry[h] = part[i];

@@ -9,7 +9,7 @@ mod put;
 mod word;
 
 pub use byte::wide;
-pub use carry::CARRY;
+pub use carry::CARRY_BYTES;
 pub use carry::keep;
 pub use decimal::put_field;
 pub use decimal::put_number;

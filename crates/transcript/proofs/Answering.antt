@@ -8,21 +8,21 @@ use lib.Seq.{sets-eq}
 use borrow.Author.Tests.{ne-eqb}
 use Rattle.waits.specs.Report.{Report, entriesOf, bytesOf, written}
 use Rattle.waits.specs.Promises.{laid}
-use Rattle.detector.specs.Tables.{Tables, Answer, silent}
+use Rattle.detector.specs.Tables.{Tables, Effect, silent}
 use Rattle.detector.specs.Events.{apply}
-use Rattle.detector.specs.Refusals.{refusal, reportRoom}
+use Rattle.detector.specs.Refusals.{refusal, bufferBytes}
 use Rattle.detector.specs.State.{tables, Valid}
 use Rattle.detector.specs.Promises.{reportsOf, Does}
 use Rattle.detector.specs.declared.event.Event.{Event}
 use Rattle.detector.specs.declared.state.Detector.{Detector}
-use Rattle.detector.specs.declared.reply.Answered.{Answered}
+use Rattle.detector.specs.declared.reply.Stepped.{Stepped}
 use Rattle.detector.specs.declared.reply.Done.{Done}
 use Rattle.detector.specs.declared.reply.Reply.{Reply}
 use Rattle.detector.specs.declared.reply.Reply.the-variants.{Reports, Refused}
 use Rattle.detector.proofs.Numbers.{refusal-known}
-use Rattle.detector.specs.Effects.{answer}
+use Rattle.detector.specs.Effects.{effect}
 use Rattle.detector.specs.Brief.{Brief}
-use Rattle.detector.proofs.Serving.{served, unserved}
+use Rattle.detector.proofs.Serving.{effect-served, effect-refused}
 use Rattle.detector.proofs.Brief.{most-32, valid-brief}
 use Rattle.answers.specs.Reports.{reportsIn, reportsSize, reportsBytes}
 use Rattle.answers.specs.Answers.{number}
@@ -33,12 +33,12 @@ use Rattle.script.specs.declared.line.Line.the-variants as line
 use Rattle.transcript.specs.Replay.{Result, replying, lineResult}
 
 -- what is returned, with the reports in the buffer b, is the result a
-pub record Results (r : Answered) (b : List ℕ) (a : Result) : Type 0 where
+pub record Results (r : Stepped) (b : List ℕ) (a : Result) : Type 0 where
   pub valid : Valid (r .detector)
   pub state : tables (r .detector) ≡ a .tables
   pub reply : r .reply ≡ a .reply
   pub cycles : reportsIn (reportsOf (r .reply)) b ≡ a .cycles
-  pub held : reportsSize (reportsOf (r .reply)) b ≤ reportRoom
+  pub held : reportsSize (reportsOf (r .reply)) b ≤ bufferBytes
   pub few : reportsOf (r .reply) ≤ 32
   pub small : number (r .reply) < 256
 
@@ -68,23 +68,23 @@ size-items b e rs h q =
 abbrev served-by : Tables → Event → Result
 served-by x e = replying (Reports (length (apply e x .reports))) (apply e x)
 
-line-served : (x : Tables) (e : Event) → refusal x reportRoom e ≡ 0 → lineResult x (line.Event e) ≡ served-by x e
-line-served x e q = rw (served x reportRoom e q, q)
+line-served : (x : Tables) (e : Event) → refusal x bufferBytes e ≡ 0 → lineResult x (line.Event e) ≡ served-by x e
+line-served x e q = rw (effect-served x bufferBytes e q, q)
 
-line-refused : (x : Tables) (e : Event) → (refusal x reportRoom e ≡ 0 → ⊥) → lineResult x (line.Event e) ≡ replying (Refused (refusal x reportRoom e)) (silent x)
-line-refused x e q = rw (unserved x reportRoom e q, ne-eqb (refusal x reportRoom e) 0 q)
+line-refused : (x : Tables) (e : Event) → (refusal x bufferBytes e ≡ 0 → ⊥) → lineResult x (line.Event e) ≡ replying (Refused (refusal x bufferBytes e)) (silent x)
+line-refused x e q = rw (effect-refused x bufferBytes e q, ne-eqb (refusal x bufferBytes e) 0 q)
 
 pub refused-results : (d : Detector) (k : ℕ) (b : List ℕ) → Valid d → k < 256 → Results (record { detector = d; reply = Refused k }) b (replying (Refused k) (silent (tables d)))
 unfolding reportsIn reportsSize
 refused-results d k b g h = record { valid = g; state = refl; reply = refl; cycles = refl; held = omega arith; few = omega arith; small = h }
 
-served-results : (d : Detector) (e : Event) (r : Detector) (b c : List ℕ) → Valid d → length b ≡ reportRoom → refusal (tables d) reportRoom e ≡ 0
+served-results : (d : Detector) (e : Event) (r : Detector) (b c : List ℕ) → Valid d → length b ≡ bufferBytes → refusal (tables d) bufferBytes e ≡ 0
     → Does (record { detector = r; reports = length (apply e (tables d) .reports) }) b c (apply e (tables d))
     → Results (record { detector = r; reply = Reports (length (apply e (tables d) .reports)) }) c (served-by (tables d) e)
 served-results d e r b c g n q s =
     let x = tables d in
-    let a : answer x reportRoom e ≡ apply e x = served x reportRoom e q in
-    let brief : Brief e (apply e x .reports) = subst (λ (z : Answer). Brief e (z .reports)) a (valid-brief d reportRoom e g) in
+    let a : effect x bufferBytes e ≡ apply e x = effect-served x bufferBytes e q in
+    let brief : Brief e (apply e x .reports) = subst (λ (z : Effect). Brief e (z .reports)) a (valid-brief d bufferBytes e g) in
     let h : length (written (apply e x .reports)) ≤ length b = omega (arith, brief .room) in
     record {
       valid = s .valid;
@@ -103,7 +103,7 @@ pub record Met (d : Detector) (l : Line) (b : List ℕ) (s : Detector) (y : Repl
   pub long : length c ≡ length b
   pub bytes : Bytes c
 
-module _ {d : Detector} {l : Line} {b : List ℕ} (g : Valid d) (n : length b ≡ reportRoom) where
+module _ {d : Detector} {l : Line} {b : List ℕ} (g : Valid d) (n : length b ≡ bufferBytes) where
   meet : {s z : Detector} {y q : Reply} {c e : List ℕ} {a : Result} → c ≡ e → s ≡ z → y ≡ q → lineResult (tables d) l ≡ a → Results (record { detector = z; reply = q }) e a → length e ≡ length b → Bytes e → Met d l b s y c
   meet {s} {z} {y} {q} {c} {e} {a} c≡ s≡ y≡ a≡ r w k =
       record {
@@ -116,15 +116,15 @@ module _ {d : Detector} {l : Line} {b : List ℕ} (g : Valid d) (n : length b �
   pub met-served : {e x : Event} {k : ℕ} {r : Done} {c z : List ℕ} {s : Detector} {y : Reply} → l ≡ line.Event e → k ≡ refusal (tables d) (length b) e → k ≡ 0 → e ≡ x → Does r b z (apply x (tables d))
       → length z ≡ length b → Bytes z → c ≡ z → s ≡ r .detector → y ≡ Reports (r .reports) → Met d l b s y c
   met-served {e} {x} {k} {r} {c} {z} h q o u p w t c≡ s≡ y≡ =
-      let none : refusal (tables d) reportRoom x ≡ 0 = ap₂ (λ (m : ℕ) (v : Event). refusal (tables d) m v) (sym n) (sym u) ∙ sym q ∙ o in
+      let none : refusal (tables d) bufferBytes x ≡ 0 = ap₂ (λ (m : ℕ) (v : Event). refusal (tables d) m v) (sym n) (sym u) ∙ sym q ∙ o in
       meet c≡ s≡ (y≡ ∙ ap Reports (p .count)) (ap (lineResult (tables d)) (h ∙ ap line.Event u) ∙ line-served (tables d) x none)
       (served-results d x (r .detector) b z g n none (record { state = p .state; count = refl; bytes = p .bytes; valid = p .valid })) w t
 
   pub met-refused : {e : Event} {k : ℕ} {c : List ℕ} {s : Detector} {y : Reply} → Bytes b → l ≡ line.Event e → k ≡ refusal (tables d) (length b) e → (k ≡ 0 → ⊥) → c ≡ b → s ≡ d → y ≡ Refused k → Met d l b s y c
   met-refused {e} {k} t h q o c≡ s≡ y≡ =
-      let same : refusal (tables d) reportRoom e ≡ k = ap (λ (m : ℕ). refusal (tables d) m e) (sym n) ∙ sym q in
+      let same : refusal (tables d) bufferBytes e ≡ k = ap (λ (m : ℕ). refusal (tables d) m e) (sym n) ∙ sym q in
       meet c≡ s≡ y≡ (ap (lineResult (tables d)) h ∙ line-refused (tables d) e (λ z. o (sym same ∙ z)) ∙ ap (λ (m : ℕ). replying (Refused m) (silent (tables d))) same)
-      (refused-results d k b g (omega (arith, refusal-known (tables d) reportRoom e .most))) refl t
+      (refused-results d k b g (omega (arith, refusal-known (tables d) bufferBytes e .most))) refl t
 
-  pub met-unread : {c : List ℕ} {s : Detector} {y : Reply} → Bytes b → l ≡ line.Unread → c ≡ b → s ≡ d → y ≡ Refused 1 → Met d l b s y c
-  met-unread t h c≡ s≡ y≡ = meet c≡ s≡ y≡ (ap (lineResult (tables d)) h) (refused-results d 1 b g (omega arith)) refl t
+  pub met-unreadable : {c : List ℕ} {s : Detector} {y : Reply} → Bytes b → l ≡ line.Unreadable → c ≡ b → s ≡ d → y ≡ Refused 1 → Met d l b s y c
+  met-unreadable t h c≡ s≡ y≡ = meet c≡ s≡ y≡ (ap (lineResult (tables d)) h) (refused-results d 1 b g (omega arith)) refl t

@@ -11,7 +11,7 @@ use borrow.Author.Tests.{ltb-true, ltb-false}
 use lib.Seq.{length-take-le, take-append-seam, drop-append-seam}
 use Rattle.text.specs.Promises.{Put}
 use Rattle.text.proofs.Puts.{puts-coincide, put-whole}
-use Rattle.transcript.specs.Chunks.{Mid, start, mid, fed, says, ends, fedAll, saysAll, together}
+use Rattle.transcript.specs.Chunks.{Mid, start, mid, fed, prints, ends, fedAll, printsAll, together}
 use Rattle.text.specs.Lines.{linesOf}
 use Rattle.transcript.specs.Replay as replay
 use Rattle.transcript.specs.Replay.{limit, begun, after, lineText, lastText, textOf, replayText}
@@ -36,19 +36,19 @@ out-put d s d′ at r h p =
 
 -- the calls, as the definitions go through the same parts
 module _ {e : Run} {k : List ℕ} where
-  pub calls-says : {r : Run} {c s : List ℕ} {ts : List (List ℕ)} → Calls r c ts s e k → (s ≡ saysAll (midOf r c) ts) × (midOf e k ≡ fedAll (midOf r c) ts)
-  unfolding saysAll fedAll
-  calls-says none = (refl, refl)
-  calls-says (next {d = d} {d′ = d′} {at = at} {t = t} {ts = ts} f g) =
-      let h = calls-says g in (
-        ap₂ (λ (x y : List ℕ). x ++ y) (out-put d _ d′ at (t .at) (f .place) (f .text)) (h .0 ∙ ap (λ (m : Mid). saysAll m ts) (f .moves .after)),
+  pub calls-print : {r : Run} {c s : List ℕ} {ts : List (List ℕ)} → Calls r c ts s e k → (s ≡ printsAll (midOf r c) ts) × (midOf e k ≡ fedAll (midOf r c) ts)
+  unfolding printsAll fedAll
+  calls-print none = (refl, refl)
+  calls-print (next {d = d} {d′ = d′} {at = at} {t = t} {ts = ts} f g) =
+      let h = calls-print g in (
+        ap₂ (λ (x y : List ℕ). x ++ y) (out-put d _ d′ at (t .at) (f .place) (f .text)) (h .0 ∙ ap (λ (m : Mid). printsAll m ts) (f .moves .after)),
         h .1 ∙ ap (λ (m : Mid). fedAll m ts) (f .moves .after),
       )
 
 pub feeds-coincide : FeedsCoincide
 feeds-coincide r c chunk from d at t u k l e f p q n =
     let part : between from (t .next) chunk ≡ between from (u .next) chunk = ap (λ (i : ℕ). between from i chunk) n in
-    let same = puts-coincide d at _ e f (t .at) (u .at) (p .text) (subst (λ (x : List ℕ). Put d at (says (midOf r c) x) f (u .at)) (sym part) (q .text)) in
+    let same = puts-coincide d at _ e f (t .at) (u .at) (p .text) (subst (λ (x : List ℕ). Put d at (prints (midOf r c) x) f (u .at)) (sym part) (q .text)) in
     (same .0, same .1, p .moves .after ∙ ap (fed (midOf r c)) part ∙ sym (q .moves .after))
 
 pub calls-move : FeedsMove
@@ -60,8 +60,8 @@ begun-mid {r} c b = ap₂ (λ (n : ℕ) (u : replay.Run). mid (take n c) u) (b .
 pub all-printed : AllPrinted
 all-printed ts all p =
     let m = begun-mid (p .carry) (p .begins) in
-    let h = calls-says (p .calls) in
-    let f : p .fed ≡ saysAll start ts = h .0 ∙ ap (λ (m : Mid). saysAll m ts) m in
+    let h = calls-print (p .calls) in
+    let f : p .fed ≡ printsAll start ts = h .0 ∙ ap (λ (m : Mid). printsAll m ts) m in
     let e : midOf (p .last) (p .carried) ≡ fedAll start ts = h .1 ∙ ap (λ (m : Mid). fedAll m ts) m in
     p .whole
     ∙ ap₂ (λ (x y : List ℕ). x ++ y) f (out-put (p .lent) _ (p .left) (p .at) (p .behind) (p .fits) (p .finished) ∙ ap ends e)
@@ -115,6 +115,6 @@ texts-answered t =
     let ls = linesOf t in
     record {
       text = text-answers ls begun;
-      sum = omega (arith, lines-answers ls begun);
+      total = omega (arith, lines-answers ls begun);
       counted = ⊎-elim (λ z. inl (z .0, omega (arith, z .0, z .1))) (λ z. inr (omega (arith, z .0), omega (arith, z .1))) (counted-answers ls begun (lit≤ tt));
     }

@@ -10,7 +10,7 @@ use lib.Dec.{ltb}
 use lib.ListN.{length, take}
 use lib.Seq.{slice-empty}
 use Rattle.text.specs.Promises.{Put}
-use Rattle.answers.specs.Answers.{answerRoom, endText}
+use Rattle.answers.specs.Answers.{answerBytes, endText}
 use Rattle.text.proofs.Puts.{then}
 use native.Mathlib.Decide.{ℕ-discrete}
 use Rattle.detector.specs.Tables.{Tables, empty}
@@ -19,24 +19,24 @@ use Rattle.detector.specs.declared.state.Detector.{Detector}
 use Rattle.detector.specs.Stuck.{stuckCount, edgeCount}
 use Rattle.text.specs.Bytes.{lineFeed}
 use Rattle.transcript.specs.Replay.{Run, limit, lastText, after, textOf}
-use Rattle.text.specs.Lines.{carrySize}
-use Rattle.transcript.specs.Chunks.{Mid, mid, step, said, fed, says, ends, lastLine, OpenLine}
+use Rattle.text.specs.Lines.{carryBytes}
+use Rattle.transcript.specs.Chunks.{Mid, mid, step, printsByte, fed, prints, ends, lastLine, OpenLine}
 use Rattle.transcript.specs.Code.{runOf, midOf, between}
 use Rattle.transcript.specs.Promises.{Begins, IsRun, Feeds}
 use Rattle.transcript.specs.declared.run.Run as code
 use Rattle.transcript.specs.declared.run.Turned.{Turned}
-use Rattle.transcript.proofs.Text.{says-append, text-full}
+use Rattle.transcript.proofs.Text.{prints-append, text-full}
 use Rattle.transcript.proofs.Chunk.{between-on, moves-none, moves-on}
 use Rattle.transcript.proofs.Turning.{Goes}
 
 -- ---- turns, one after the other
 
 pub goes-none : (r : code.Run) (carry chunk : List ℕ) (from : ℕ) (out : List ℕ) (at : ℕ) → IsRun r carry → from ≤ length chunk → Goes r carry chunk from out at carry out r from at
-unfolding says
+unfolding prints
 goes-none r carry chunk from out at k h =
     record {
       moves = moves-none r carry chunk from k h;
-      text = subst (λ (s : List ℕ). Put out at s out at) (sym (ap (says (midOf r carry)) (slice-empty from chunk))) (record { bytes = refl; place = omega arith });
+      text = subst (λ (s : List ℕ). Put out at s out at) (sym (ap (prints (midOf r carry)) (slice-empty from chunk))) (record { bytes = refl; place = omega arith });
       up = omega arith;
       short = omega arith;
     }
@@ -48,20 +48,20 @@ module _ {r : code.Run} {carry chunk : List ℕ} {from : ℕ} {out : List ℕ} {
       record {
         moves = moves-on (g .moves) (h .moves);
         text = subst (λ (z : List ℕ). Put out at z out″ to′)
-            (ap (λ (n : Mid). says m (between from i chunk) ++ says n (between i j chunk)) (g .moves .after) ∙ sym (says-append m (between from i chunk) (between i j chunk))
-            ∙ sym (ap (says m) (between-on from i j chunk (g .moves .onward) (h .moves .onward) (h .moves .inside))))
+            (ap (λ (n : Mid). prints m (between from i chunk) ++ prints n (between i j chunk)) (g .moves .after) ∙ sym (prints-append m (between from i chunk) (between i j chunk))
+            ∙ sym (ap (prints m) (between-on from i j chunk (g .moves .onward) (h .moves .onward) (h .moves .inside))))
             (then (g .text) (h .text));
         up = omega (arith, g .up, h .up);
         short = omega (arith, g .up, h .up, g .short, h .short);
       }
 
-  pub goes-done : to ≤ length out → (i < length chunk → s .lines < limit → length out < to + answerRoom) → Feeds r carry chunk from out at (record { run = s; next = i; at = to }) carry′ out′
+  pub goes-done : to ≤ length out → (i < length chunk → s .lines < limit → length out < to + answerBytes) → Feeds r carry chunk from out at (record { run = s; next = i; at = to }) carry′ out′
   goes-done w h = record { moves = g .moves; text = g .text; place = w; short = g .short; stops = h }
 
 -- a call moves on
 pub feeds-move : {r : code.Run} {carry chunk : List ℕ} {from : ℕ} {out : List ℕ} {at : ℕ} {t : Turned} {carry′ out′ : List ℕ} → Feeds r carry chunk from out at t carry′ out′
-    → from < length chunk → r .lines < limit → at + answerRoom ≤ length out → from < t .next
-unfolding fed says
+    → from < length chunk → r .lines < limit → at + answerBytes ≤ length out → from < t .next
+unfolding fed prints
 feeds-move {r} {carry} {chunk} {from} {out} {at} {t} {carry′} {out′} f h k w = go (ℕ-discrete from (t .next))
   where
     go : Dec (from ≡ t .next) → from < t .next
@@ -69,14 +69,14 @@ feeds-move {r} {carry} {chunk} {from} {out} {at} {t} {carry′} {out′} f h k w
     go (yes e) =
         let cut : between from (t .next) chunk ≡ [] = ap (λ (j : ℕ). between from j chunk) (sym e) ∙ slice-empty from chunk in
         let same : t .run .lines ≡ r .lines = ap (λ (m : Mid). m .run .lines) (f .moves .after ∙ ap (fed (midOf r carry)) cut) in
-        let here : t .at ≡ at + length (says (midOf r carry) []) = f .text .place ∙ ap (λ (z : List ℕ). at + length (says (midOf r carry) z)) cut in
+        let here : t .at ≡ at + length (prints (midOf r carry) []) = f .text .place ∙ ap (λ (z : List ℕ). at + length (prints (midOf r carry) z)) cut in
         absurd (omega (arith, f .stops (omega arith) (omega arith), here))
 
 -- ---- the end
 
-pub sums-text : (n e s : ℕ) (x : Tables) → e ≡ edgeCount (x .waits .«wait_for_graph» .edges) → s ≡ stuckCount x → endText n e s ≡ lastText (record { lines = n; tables = x })
+pub totals-text : (n e s : ℕ) (x : Tables) → e ≡ edgeCount (x .waits .«wait_for_graph» .edges) → s ≡ stuckCount x → endText n e s ≡ lastText (record { lines = n; tables = x })
 unfolding lastText
-sums-text n e s x p q = ap₂ (endText n) p q
+totals-text n e s x p q = ap₂ (endText n) p q
 
 pub ends-none : (r : code.Run) (carry : List ℕ) → r .have ≡ 0 → ends (midOf r carry) ≡ lastText (runOf r)
 unfolding ends textOf
@@ -92,10 +92,10 @@ ends-closed r carry (inl e) = ends-none r carry e
 ends-closed r carry (inr e) = ends-full r carry e
 
 pub open-line : OpenLine
-unfolding ends textOf says said fed step
+unfolding ends textOf prints printsByte fed step
 open-line m h k = go (m .part) (m .run) h (lt-ltb (m .run .lines) limit k)
   where
-    go : (p : List ℕ) (r : Run) → (p ≡ [] → ⊥) → ltb (r .lines) limit ≡ true → says (mid p r) (lineFeed ∷ []) ++ ends (fed (mid p r) (lineFeed ∷ [])) ≡ ends (mid p r)
+    go : (p : List ℕ) (r : Run) → (p ≡ [] → ⊥) → ltb (r .lines) limit ≡ true → prints (mid p r) (lineFeed ∷ []) ++ ends (fed (mid p r) (lineFeed ∷ [])) ≡ ends (mid p r)
     go [] r h e = absurd (h refl)
     go (b ∷ p) r h e = rw (e, append-nil)
 
@@ -109,5 +109,5 @@ begins d e v =
       have = refl;
     }
 
-pub begins-kept : {r : code.Run} {carry : List ℕ} → Begins r → length carry ≡ carrySize → IsRun r carry
+pub begins-kept : {r : code.Run} {carry : List ℕ} → Begins r → length carry ≡ carryBytes → IsRun r carry
 begins-kept b h = record { valid = b .valid; lines = omega (arith, ap (λ (u : Run). u .lines) (b .run)); have = omega (arith, b .have); long = h }

@@ -5,4 +5,4 @@ pub mod Answering
 pub mod Turning
 pub mod Feeding
 pub mod Calls
-pub mod Entries
+pub mod Guards

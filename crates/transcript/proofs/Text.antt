@@ -12,9 +12,9 @@ use Rattle.text.specs.Fields.{onFirst}
 use Rattle.script.proofs.Steps.{line-cut}
 use Rattle.detector.specs.Tables.{Tables}
 use Rattle.text.specs.Bytes.{lineFeed}
-use Rattle.text.specs.Lines.{linesOf, carrySize}
+use Rattle.text.specs.Lines.{linesOf, carryBytes}
 use Rattle.transcript.specs.Replay.{Run, limit, begun, lineResult, resultOf, after, lineText, lastText, textOf, replayText}
-use Rattle.transcript.specs.Chunks.{Mid, mid, start, step, said, fed, says, lastLine, ends, fedAll, saysAll, together, TextTheorem}
+use Rattle.transcript.specs.Chunks.{Mid, mid, start, step, printsByte, fed, prints, lastLine, ends, fedAll, printsAll, together, TextTheorem}
 
 -- ---- feeding a and then b is feeding a ++ b
 
@@ -23,35 +23,35 @@ unfolding fed
 fed-append m [] b = refl
 fed-append m (x ∷ a) b = fed-append (step m x) a b
 
-pub says-append : (m : Mid) (a b : List ℕ) → says m (a ++ b) ≡ says m a ++ says (fed m a) b
-unfolding fed says
-says-append m [] b = refl
-says-append m (x ∷ a) b = rw (says-append (step m x) a b, append-assoc)
+pub prints-append : (m : Mid) (a b : List ℕ) → prints m (a ++ b) ≡ prints m a ++ prints (fed m a) b
+unfolding fed prints
+prints-append m [] b = refl
+prints-append m (x ∷ a) b = rw (prints-append (step m x) a b, append-assoc)
 
 pub fed-joined : (m : Mid) (ts : List (List ℕ)) → fedAll m ts ≡ fed m (together ts)
 unfolding fedAll fed together
 fed-joined m [] = refl
 fed-joined m (t ∷ ts) = fed-joined (fed m t) ts ∙ sym (fed-append m t (together ts))
 
-says-joined : (m : Mid) (ts : List (List ℕ)) → saysAll m ts ≡ says m (together ts)
-unfolding saysAll says together
-says-joined m [] = refl
-says-joined m (t ∷ ts) = ap (λ (x : List ℕ). says m t ++ x) (says-joined (fed m t) ts) ∙ sym (says-append m t (together ts))
+prints-joined : (m : Mid) (ts : List (List ℕ)) → printsAll m ts ≡ prints m (together ts)
+unfolding printsAll prints together
+prints-joined m [] = refl
+prints-joined m (t ∷ ts) = ap (λ (x : List ℕ). prints m t ++ x) (prints-joined (fed m t) ts) ∙ sym (prints-append m t (together ts))
 
 -- ---- a line cut where the carry ends answers as the whole line
 
-pub cut-result : (x : Tables) (p : List ℕ) → resultOf x (take carrySize p) ≡ resultOf x p
+pub cut-result : (x : Tables) (p : List ℕ) → resultOf x (take carryBytes p) ≡ resultOf x p
 unfolding resultOf
 cut-result x p = ap (lineResult x) (line-cut p)
 
-more-pick : (t : Bool) (p x : List ℕ) → leb (length p) carrySize ≡ t → take carrySize (take carrySize p ++ x) ≡ take carrySize (p ++ x)
-more-pick true p x e = rw (take-all carrySize p (leb-true (length p) carrySize e))
+more-pick : (t : Bool) (p x : List ℕ) → leb (length p) carryBytes ≡ t → take carryBytes (take carryBytes p ++ x) ≡ take carryBytes (p ++ x)
+more-pick true p x e = rw (take-all carryBytes p (leb-true (length p) carryBytes e))
 more-pick false p x e =
-    let h : carrySize < length p = leb-false (length p) carrySize e in
-    take-append-le carrySize (take carrySize p) x (omega (arith, length-take carrySize p)) ∙ take-take carrySize carrySize p (omega arith) ∙ sym (take-append-le carrySize p x (omega arith))
+    let h : carryBytes < length p = leb-false (length p) carryBytes e in
+    take-append-le carryBytes (take carryBytes p) x (omega (arith, length-take carryBytes p)) ∙ take-take carryBytes carryBytes p (omega arith) ∙ sym (take-append-le carryBytes p x (omega arith))
 
-pub cut-more : (p x : List ℕ) → take carrySize (take carrySize p ++ x) ≡ take carrySize (p ++ x)
-cut-more p x = more-pick (leb (length p) carrySize) p x refl
+pub cut-more : (p x : List ℕ) → take carryBytes (take carryBytes p ++ x) ≡ take carryBytes (p ++ x)
+cut-more p x = more-pick (leb (length p) carryBytes) p x refl
 
 -- ---- the lines of a text behind the line so far
 
@@ -83,17 +83,17 @@ text-line : (r : Run) (l : List ℕ) (ls : List (List ℕ)) → ltb (r .lines) l
 unfolding textOf
 text-line r l ls e = rw e
 
-text-cut : (r : Run) (p : List ℕ) → textOf r (lastLine (take carrySize p)) ≡ textOf r (lastLine p)
+text-cut : (r : Run) (p : List ℕ) → textOf r (lastLine (take carryBytes p)) ≡ textOf r (lastLine p)
 unfolding textOf lineText after
 text-cut r [] = refl
 text-cut r (b ∷ p) = rw (cut-result (r .tables) (b ∷ p))
 
 Whole : List ℕ → Type 0
-Whole t = (p : List ℕ) (r : Run) → says (mid (take carrySize p) r) t ++ ends (fed (mid (take carrySize p) r) t) ≡ textOf r (before p (linesOf t))
+Whole t = (p : List ℕ) (r : Run) → prints (mid (take carryBytes p) r) t ++ ends (fed (mid (take carryBytes p) r) t) ≡ textOf r (before p (linesOf t))
 
 whole-byte : (full feed : Bool) (b : ℕ) (t : List ℕ) (p : List ℕ) (r : Run) → ltb (r .lines) limit ≡ full → eqb b lineFeed ≡ feed → Whole t
-    → says (mid (take carrySize p) r) (b ∷ t) ++ ends (fed (mid (take carrySize p) r) (b ∷ t)) ≡ textOf r (before p (linesOf (b ∷ t)))
-unfolding Whole says said step fed linesOf lineText after
+    → prints (mid (take carryBytes p) r) (b ∷ t) ++ ends (fed (mid (take carryBytes p) r) (b ∷ t)) ≡ textOf r (before p (linesOf (b ∷ t)))
+unfolding Whole prints printsByte step fed linesOf lineText after
 whole-byte false feed b t p r e f ih = rw e (ih p r ∙ text-full r _ e ∙ sym (text-full r _ e))
 whole-byte true true b t p r e f ih =
     rw (e, f, cut-result)
@@ -102,13 +102,13 @@ whole-byte true true b t p r e f ih =
 whole-byte true false b t p r e f ih = rw (e, f, cut-more) (ih (p ++ (b ∷ [])) r ∙ ap (textOf r) (sym (before-more p b (linesOf t))))
 
 whole : (t : List ℕ) → Whole t
-unfolding Whole says fed linesOf ends
+unfolding Whole prints fed linesOf ends
 whole [] = λ p r. text-cut r p ∙ ap (textOf r) (sym (before-none p))
 whole (b ∷ t) = λ p r. whole-byte (ltb (r .lines) limit) (eqb b lineFeed) b t p r refl refl (whole t)
 
-pub replays : (t : List ℕ) → says start t ++ ends (fed start t) ≡ replayText t
+pub replays : (t : List ℕ) → prints start t ++ ends (fed start t) ≡ replayText t
 unfolding replayText Whole
 replays t = whole t [] begun
 
 pub text-theorem : TextTheorem
-text-theorem ts = rw (says-joined start ts, fed-joined start ts) (replays (together ts))
+text-theorem ts = rw (prints-joined start ts, fed-joined start ts) (replays (together ts))

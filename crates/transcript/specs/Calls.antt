@@ -9,7 +9,7 @@ use Prim.Native.Nat.{ℕ, _+_, _<_, _≤_}
 use lib.Dec.{ltb}
 use lib.ListN.{length}
 use Rattle.text.specs.Promises.{Put}
-use Rattle.answers.specs.Answers.{answerRoom}
+use Rattle.answers.specs.Answers.{answerBytes}
 use Rattle.text.specs.Lines.{linesOf}
 use Rattle.transcript.specs.Replay as replay
 use Rattle.transcript.specs.Replay.{limit, begun, after, lineText, lastText, replayText}
@@ -40,7 +40,7 @@ FeedsCoincide =
 abbrev pub FeedsMove : Type 0
 FeedsMove =
     (r : Run) (c chunk : List ℕ) (from : ℕ) (d : List ℕ) (at : ℕ) (t : Turned) (k e : List ℕ)
-    → Feeds r c chunk from d at t k e → from < length chunk → r .lines < limit → at + answerRoom ≤ length d → from < t .next
+    → Feeds r c chunk from d at t k e → from < length chunk → r .lines < limit → at + answerBytes ≤ length d → from < t .next
 
 -- A TEXT, WHOLE: `begin`, calls of `feed_within`, `finish_within`
 pub record Printed (ts : List (List ℕ)) (all : List ℕ) : Type 0 where
@@ -78,7 +78,7 @@ AllOrLimit n lines = ((n ≡ lines) × (n ≤ limit)) ⊎ ((n ≡ limit) × (lim
 
 pub record TextAnswered (t : List ℕ) : Type 0 where
   pub text : replayText t ≡ together (answersOf begun (linesOf t)) ++ lastText (lastOf begun (linesOf t))
-  pub sum : lastOf begun (linesOf t) .lines ≡ length (answersOf begun (linesOf t))
+  pub total : lastOf begun (linesOf t) .lines ≡ length (answersOf begun (linesOf t))
   pub counted : AllOrLimit (length (answersOf begun (linesOf t))) (length (linesOf t))
 
 abbrev pub TextsAnswered : Type 0

@@ -4,12 +4,12 @@ use mathlib.Core.Bool.{cond}
 use mathlib.Core.List.{List, [], _∷_, _++_, map}
 use lib.Dec.{ltb}
 use Rattle.waits.specs.Report.{Entry, entriesOf}
-use Rattle.detector.specs.Tables.{Tables, Answer, silent, empty}
+use Rattle.detector.specs.Tables.{Tables, Effect, silent, empty}
 use Rattle.detector.specs.Stuck.{stuckCount, edgeCount}
 use Rattle.detector.specs.declared.reply.Reply.{Reply}
 use Rattle.detector.specs.declared.reply.Reply.the-variants.{Refused}
-use Rattle.detector.specs.Effects.{answer, replied}
-use Rattle.detector.specs.Refusals.{reportRoom}
+use Rattle.detector.specs.Effects.{effect, replied}
+use Rattle.detector.specs.Refusals.{bufferBytes}
 use Rattle.script.specs.Lines.{lineOf, lineRefusal}
 use Rattle.script.specs.declared.line.Line.{Line}
 use Rattle.script.specs.declared.line.Line.the-variants as line
@@ -27,13 +27,13 @@ pub record Result : Type 0 where
   pub reply : Reply
   pub cycles : List (List Entry)
 
-abbrev pub replying : Reply → Answer → Result
+abbrev pub replying : Reply → Effect → Result
 replying y a = record { tables = a .tables; reply = y; cycles = map entriesOf (a .reports) }
 
 -- the rules' answer to its event; "a refusal returns its number and the same state and writes nothing"
 abbrev pub lineResult : Tables → Line → Result
-lineResult x (line.Event e) = replying (replied x reportRoom e) (answer x reportRoom e)
-lineResult x line.Unread = replying (Refused (lineRefusal line.Unread)) (silent x)
+lineResult x (line.Event e) = replying (replied x bufferBytes e) (effect x bufferBytes e)
+lineResult x line.Unreadable = replying (Refused (lineRefusal line.Unreadable)) (silent x)
 
 unfoldable pub resultOf : Tables → List ℕ → Result
 resultOf x l = lineResult x (lineOf l)

@@ -5,7 +5,7 @@ use detector::Detector;
 ghost use Prim.Native.Nat.{_+_, _≤_};
 ghost use lib.ListN.{length};
 ghost use Rattle.text.specs.Promises.{Put};
-ghost use Rattle.answers.specs.Answers.{endRoom};
+ghost use Rattle.answers.specs.Answers.{endBytes};
 ghost use Rattle.detector.specs.State.{tables, Valid};
 ghost use Rattle.transcript.specs.Replay.{limit, lastText};
 ghost use Rattle.transcript.specs.Chunks.{ends};
@@ -13,9 +13,9 @@ ghost use Rattle.transcript.specs.Promises.{EndAsks};
 ghost use Rattle.transcript.specs.Code.{midOf};
 
 // Lines, edges stored, stuck threads.
-fn put_sums(detector: Detector, lines: usize, out: &mut [u8], at: usize) -> usize
-    requires { ⌜ Valid detector × (lines ≤ limit) × (at + endRoom ≤ length (now out)) ⌝ }
-    ensures { λ r. ⌜ Put (now (out .entry)) at (lastText (record { lines = lines; tables = tables detector })) (now (out .exit)) r × (r ≤ at + endRoom) ⌝ }
+fn put_totals(detector: Detector, lines: usize, out: &mut [u8], at: usize) -> usize
+    requires { ⌜ Valid detector × (lines ≤ limit) × (at + endBytes ≤ length (now out)) ⌝ }
+    ensures { λ r. ⌜ Put (now (out .entry)) at (lastText (record { lines = lines; tables = tables detector })) (now (out .exit)) r × (r ≤ at + endBytes) ⌝ }
 {
     let edges = detector.edges_stored();
     let stuck = detector.stuck_within();
@@ -26,8 +26,8 @@ fn put_sums(detector: Detector, lines: usize, out: &mut [u8], at: usize) -> usiz
 // lacks its line feed is first fed one (`open-line`).
 pub fn finish_within(run: Run, carry: &[u8], out: &mut [u8], at: usize) -> usize
     requires { ⌜ EndAsks run (now carry) (length (now out)) at ⌝ }
-    ensures { λ r. ⌜ Put (now (out .entry)) at (ends (midOf run (now (carry .entry)))) (now (out .exit)) r × (r ≤ at + endRoom) ⌝ }
+    ensures { λ r. ⌜ Put (now (out .entry)) at (ends (midOf run (now (carry .entry)))) (now (out .exit)) r × (r ≤ at + endBytes) ⌝ }
 {
     let s = run.detector;
-    put_sums(s, run.lines, out, at)
+    put_totals(s, run.lines, out, at)
 }

@@ -1,12 +1,12 @@
 // A script's run over a chunk, line by line.
-use text::keep;
 use crate::lines::line_of;
-use answers::ANSWER_ROOM;
+use answers::ANSWER_BYTES;
 use answers::put_answer;
 use detector::Detector;
 use detector::Event;
 use detector::Reply;
 use script::Line;
+use text::keep;
 use text::up_to;
 ghost use lib.ListN.{length};
 ghost use Rattle.transcript.specs.Promises.{Begins, FeedAsks, Feeds};
@@ -71,7 +71,7 @@ pub fn feed_within(
                 at: to,
             };
         }
-        if out.len() - to < ANSWER_ROOM {
+        if out.len() - to < ANSWER_BYTES {
             return Turned {
                 run: Run {
                     detector: s,

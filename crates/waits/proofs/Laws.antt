@@ -19,7 +19,7 @@ use Rattle.graph.specs.declared.wait_for_graph.WaitForGraph.{WaitForGraph}
 use Rattle.graph.proofs.Fits.{Fits, fits-none, fits-first, fits-owners, one-lt}
 use Rattle.waits.specs.Tables.{noSlot, intentOf, lockOf, waitersOf, writerOf, ownerOf, withGraph, withIntents, own, write, empty, InRange}
 use Rattle.waits.specs.Owners.{readers, reads, thenWriter, ownersFor, owners}
-use Rattle.waits.specs.Waiting.{Step, unwaited, clear, setIntent, register, renewFor, renew, start, renewAll, refreshed, refresh, refreshNext, refreshLocks}
+use Rattle.waits.specs.Waiting.{Linking, unwaited, clear, setIntent, register, renewFor, renew, start, renewAll, refreshed, refresh, refreshNext, refreshLocks}
 use Rattle.waits.specs.declared.tables.Waits.{Waits}
 use Rattle.waits.specs.declared.intent.Slot.{Slot}
 use Rattle.waits.specs.declared.intent.WaitIntent.{WaitIntent}
@@ -73,7 +73,7 @@ pub range-refresh : (c : List ℕ) (w : Waits) (l : ℕ) → InRange w → InRan
 unfolding refresh
 range-refresh c w l s = range-graph w _ s
 
-pub range-locks : (c : List ℕ) (ls : List ℕ) (s : Step) → InRange (s .waits) → InRange (foldl (refreshNext c) s ls .waits)
+pub range-locks : (c : List ℕ) (ls : List ℕ) (s : Linking) → InRange (s .waits) → InRange (foldl (refreshNext c) s ls .waits)
 unfolding refreshNext
 range-locks c [] s h = h
 range-locks c (l ∷ ls) s h = range-locks c ls (refreshNext c s l) (range-refresh c (s .waits) l h)
@@ -143,7 +143,7 @@ pub fits-refresh : (c : List ℕ) (w : Waits) (l : ℕ) → Fits (refresh c w l 
 unfolding refresh
 fits-refresh c w l = fits-refreshed c w l
 
-fits-next : (c : List ℕ) (ls : List ℕ) (s : Step) → Fits (s .found) → Fits (foldl (refreshNext c) s ls .found)
+fits-next : (c : List ℕ) (ls : List ℕ) (s : Linking) → Fits (s .found) → Fits (foldl (refreshNext c) s ls .found)
 unfolding refreshNext
 fits-next c [] s f = f
 fits-next c (l ∷ ls) s f = fits-next c ls (refreshNext c s l) (fits-first (s .found) _ f (fits-refresh c (s .waits) l))

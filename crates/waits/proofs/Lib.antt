@@ -2,6 +2,6 @@
 pub mod Laws
 pub mod Steps
 pub mod Masks
-pub mod Telling
+pub mod Judging
 -- The rules, run
 pub mod Readings

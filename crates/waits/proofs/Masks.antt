@@ -25,8 +25,8 @@ use Rattle.graph.specs.Search.{row}
 use Rattle.graph.specs.Graph.{one}
 use Rattle.waits.specs.Tables.{intentOf, holdsOf}
 use Rattle.waits.specs.Owners.{countOf, reads, readers, thenWriter, waitsFor}
-use Rattle.waits.specs.Filter.{nothing, allHold, unread, commonLocks, passes}
-use Rattle.waits.specs.Validate.{around, valid, names, awaitedBy, awaitedLocks}
+use Rattle.waits.specs.Filter.{nothing, allHold, nobodyReads, commonLocks, passes}
+use Rattle.waits.specs.Validate.{around, valid, names, someAwaits, awaitedLocks}
 use Rattle.waits.specs.Code.{commonMask, allRead, withAwaited, awaitedMask}
 use Rattle.waits.specs.declared.tables.Waits.{Waits}
 use Rattle.waits.specs.declared.intent.Awaits.{Awaits}
@@ -181,13 +181,13 @@ has-awaited m l (For i) = go (ℕ-discrete (i .«lock_id») l)
     go (no n) = rw (ne-eqb (i .«lock_id») l n) (ap (λ (d : ℕ). eqb d 1) (bit-with-other m (i .«lock_id») l (λ e. n (sym e))))
 
 -- what is in the mask: what was, and what a thread awaits
-has-mask : (w : Waits) (l : ℕ) (p : List ℕ) (m : ℕ) → has (awaitedMask w m p) l ≡ cond (awaitedBy w p l) true (has m l)
-unfolding awaitedMask awaitedBy
+has-mask : (w : Waits) (l : ℕ) (p : List ℕ) (m : ℕ) → has (awaitedMask w m p) l ≡ cond (someAwaits w p l) true (has m l)
+unfolding awaitedMask someAwaits
 has-mask w l [] m = refl
 has-mask w l (t ∷ p) m =
     has-mask w l p (withAwaited m (intentOf w t))
-    ∙ ap (λ (x : Bool). cond (awaitedBy w p l) true x) (has-awaited m l (intentOf w t))
-    ∙ go (awaitedBy w p l) (names (intentOf w t) l)
+    ∙ ap (λ (x : Bool). cond (someAwaits w p l) true x) (has-awaited m l (intentOf w t))
+    ∙ go (someAwaits w p l) (names (intentOf w t) l)
   where
     go : (x y : Bool) → cond x true (cond y true (has m l)) ≡ cond (cond y true x) true (has m l)
     go true true = refl
@@ -197,7 +197,7 @@ has-mask w l (t ∷ p) m =
 
 pub awaited-locks : (w : Waits) (p : List ℕ) → upward 64 (awaitedMask w 0 p) ≡ awaitedLocks w p
 unfolding awaitedLocks
-awaited-locks w p = upward-those 64 (awaitedMask w 0 p) ∙ those-same (has (awaitedMask w 0 p)) (awaitedBy w p) 64 (λ l h. has-mask w l p 0 ∙ rw (bit-zero l) (go (awaitedBy w p l)))
+awaited-locks w p = upward-those 64 (awaitedMask w 0 p) ∙ those-same (has (awaitedMask w 0 p)) (someAwaits w p) 64 (λ l h. has-mask w l p 0 ∙ rw (bit-zero l) (go (someAwaits w p l)))
   where
     go : (x : Bool) → cond x true false ≡ x
     go true = refl
@@ -262,21 +262,21 @@ all-hold w p =
     upward-those 64 _ ∙ those-same _ _ 64 (λ l h. has-common w l p 18446744073709551615 ∙ rw (full 64 l h))
 
 -- a lock that nobody reads is found, or all are read
-read-all : (c : List ℕ) (ls : List ℕ) → allRead c ls ≡ true → (l : ℕ) → In l ls → unread c l ≡ false
+read-all : (c : List ℕ) (ls : List ℕ) → allRead c ls ≡ true → (l : ℕ) → In l ls → nobodyReads c l ≡ false
 unfolding allRead
-read-all c (x ∷ ls) h l i = go (unread c x) refl h i (read-all c ls)
+read-all c (x ∷ ls) h l i = go (nobodyReads c x) refl h i (read-all c ls)
   where
-    go : (b : Bool) → unread c x ≡ b → cond b false (allRead c ls) ≡ true → In l (x ∷ ls) → (allRead c ls ≡ true → (l : ℕ) → In l ls → unread c l ≡ false) → unread c l ≡ false
+    go : (b : Bool) → nobodyReads c x ≡ b → cond b false (allRead c ls) ≡ true → In l (x ∷ ls) → (allRead c ls ≡ true → (l : ℕ) → In l ls → nobodyReads c l ≡ false) → nobodyReads c l ≡ false
     go true e h i r = absurd (false≢true h)
-    go false e h (inl q) r = ap (unread c) q ∙ e
+    go false e h (inl q) r = ap (nobodyReads c) q ∙ e
     go false e h (inr j) r = r h l j
 
-read-not : (c : List ℕ) (ls : List ℕ) → allRead c ls ≡ false → (l : ℕ) × In l ls × (unread c l ≡ true)
+read-not : (c : List ℕ) (ls : List ℕ) → allRead c ls ≡ false → (l : ℕ) × In l ls × (nobodyReads c l ≡ true)
 unfolding allRead
 read-not c [] h = absurd (true≢false h)
-read-not c (x ∷ ls) h = go (unread c x) refl h (read-not c ls)
+read-not c (x ∷ ls) h = go (nobodyReads c x) refl h (read-not c ls)
   where
-    go : (b : Bool) → unread c x ≡ b → cond b false (allRead c ls) ≡ false → (allRead c ls ≡ false → (l : ℕ) × In l ls × (unread c l ≡ true)) → (l : ℕ) × In l (x ∷ ls) × (unread c l ≡ true)
+    go : (b : Bool) → nobodyReads c x ≡ b → cond b false (allRead c ls) ≡ false → (allRead c ls ≡ false → (l : ℕ) × In l ls × (nobodyReads c l ≡ true)) → (l : ℕ) × In l (x ∷ ls) × (nobodyReads c l ≡ true)
     go true e h r = (x, inl refl, e)
     go false e h r = let q = r h in (q .0, inr (q .1), q .2)
 
@@ -293,30 +293,30 @@ all-read-passes c w p = ap (allRead c) (all-hold w p) ∙ go (allRead c (those (
   where
     go : (b : Bool) → allRead c (those (λ l. allHold w l p) 64) ≡ b → b ≡ passes c w p
     go true e =
-        sym (in-nothing (those (λ l. cond (allHold w l p) (unread c l) false) 64) (λ l i.
-        let q = those-in (λ l. cond (allHold w l p) (unread c l) false) 64 l i in
-        let z = both (allHold w l p) (unread c l) (q .1) in
+        sym (in-nothing (those (λ l. cond (allHold w l p) (nobodyReads c l) false) 64) (λ l i.
+        let q = those-in (λ l. cond (allHold w l p) (nobodyReads c l) false) 64 l i in
+        let z = both (allHold w l p) (nobodyReads c l) (q .1) in
         true≢false (sym (z .1) ∙ read-all c (those (λ l. allHold w l p) 64) e l (in-those (λ l. allHold w l p) 64 l (q .0) (z .0)))))
     go false e =
         let q = read-not c (those (λ l. allHold w l p) 64) e in
         let i = those-in (λ l. allHold w l p) 64 (q .0) (q .1) in
-        sym (nothing-in (those (λ l. cond (allHold w l p) (unread c l) false) 64) (q .0)
-        (in-those (λ l. cond (allHold w l p) (unread c l) false) 64 (q .0) (i .0) (ap (λ (x : Bool). cond x (unread c (q .0)) false) (i .1) ∙ q .2)))
+        sym (nothing-in (those (λ l. cond (allHold w l p) (nobodyReads c l) false) 64) (q .0)
+        (in-those (λ l. cond (allHold w l p) (nobodyReads c l) false) 64 (q .0) (i .0) (ap (λ (x : Bool). cond x (nobodyReads c (q .0)) false) (i .1) ∙ q .2)))
 
 -- ---- whether a lock is read
 
-pub unread-zero : (c : List ℕ) (l m : ℕ) → upward 32 m ≡ readers c l → m ≡ 0 → unread c l ≡ true
-unread-zero c l m e z = ap nothing (sym e ∙ ap (upward 32) z ∙ upward-zero 32 0)
+pub nobody-zero : (c : List ℕ) (l m : ℕ) → upward 32 m ≡ readers c l → m ≡ 0 → nobodyReads c l ≡ true
+nobody-zero c l m e z = ap nothing (sym e ∙ ap (upward 32) z ∙ upward-zero 32 0)
 
-pub unread-some : (c : List ℕ) (l m : ℕ) → upward 32 m ≡ readers c l → 0 < m → m < 2 ^ 32 → unread c l ≡ false
-unread-some c l m e p h = ap nothing (sym e ∙ upward-step 32 m p h)
+pub nobody-some : (c : List ℕ) (l m : ℕ) → upward 32 m ≡ readers c l → 0 < m → m < 2 ^ 32 → nobodyReads c l ≡ false
+nobody-some c l m e p h = ap nothing (sym e ∙ upward-step 32 m p h)
 
 module _ (c : List ℕ) (m : ℕ) (p : 0 < m) (h : m < 2 ^ 64) where
-  pub read-stop : unread c (lowest 64 m) ≡ true → false ≡ allRead c (upward 64 m)
+  pub read-stop : nobodyReads c (lowest 64 m) ≡ true → false ≡ allRead c (upward 64 m)
   unfolding allRead
   read-stop e = rw (upward-step 64 m p h, e)
 
-  pub read-step : unread c (lowest 64 m) ≡ false → allRead c (upward 64 (without m (lowest 64 m))) ≡ allRead c (upward 64 m)
+  pub read-step : nobodyReads c (lowest 64 m) ≡ false → allRead c (upward 64 (without m (lowest 64 m))) ≡ allRead c (upward 64 m)
   unfolding allRead
   read-step e = rw (upward-step 64 m p h, e)
 

@@ -4,18 +4,18 @@ use mathlib.Core.List.{List, [], _∷_, foldl}
 use mathlib.Core.Option.{none}
 use Prim.Native.Nat.{ℕ}
 use Rattle.graph.specs.Graph.{Adding}
-use Rattle.graph.specs.Code.{answered, added}
+use Rattle.graph.specs.Code.{soughtOf, added}
 use Rattle.graph.specs.declared.wait_for_graph.Added.{Added}
 use Rattle.graph.proofs.Owners.{sooner-first}
 use Rattle.waits.specs.Tables.{intentOf, InRange}
-use Rattle.waits.specs.Waiting.{Step, after, renewFor, renew, start, renewAll, refreshNext, refreshLocks}
-use Rattle.waits.specs.Code.{told, afterC, renewForC, renewC, refreshNextC}
+use Rattle.waits.specs.Waiting.{Linking, later, renewFor, renew, start, renewAll, refreshNext, refreshLocks}
+use Rattle.waits.specs.Code.{linked, laterC, renewForC, renewC, refreshNextC}
 use Rattle.waits.specs.declared.tables.Waits.{Waits}
 use Rattle.waits.specs.declared.tables.Linked.{Linked}
 use Rattle.waits.specs.declared.intent.Awaits.{Awaits}
 use Rattle.waits.specs.declared.intent.Awaits.the-variants.{Nothing, For}
 
-after-code : (k n : Adding) → afterC (added k) (added n) ≡ added (after k n)
+after-code : (k n : Adding) → laterC (added k) (added n) ≡ added (later k n)
 after-code k n = rw sooner-first
 
 renew-code : (c : List ℕ) (w : Waits) (k : Adding) (t : ℕ) → renewC c w (added k) t ≡ added (renew c w k t)
@@ -42,16 +42,16 @@ pub renew-all-code : (c : List ℕ) (w : Waits) (ts : List ℕ) → renewAllC c 
 unfolding renewAll
 renew-all-code c w ts = all-code c w ts (start w)
 
-refresh-code : (c : List ℕ) (s : Step) (l : ℕ) → refreshNextC c (told s) l ≡ told (refreshNext c s l)
+refresh-code : (c : List ℕ) (s : Linking) (l : ℕ) → refreshNextC c (linked s) l ≡ linked (refreshNext c s l)
 unfolding refreshNextC refreshNext
 refresh-code c s l = rw sooner-first
 
-locks-code : (c : List ℕ) (ls : List ℕ) (s : Step) → refreshAllC c (told s) ls ≡ told (foldl (refreshNext c) s ls)
+locks-code : (c : List ℕ) (ls : List ℕ) (s : Linking) → refreshAllC c (linked s) ls ≡ linked (foldl (refreshNext c) s ls)
 unfolding refreshAllC
 locks-code c [] s = refl
 locks-code c (l ∷ ls) s = ap (λ k. foldl (refreshNextC c) k ls) (refresh-code c s l) ∙ locks-code c ls (refreshNext c s l)
 
-pub refresh-all-code : (c : List ℕ) (w : Waits) (ls : List ℕ) → refreshAllC c (record { waits = w; sought = answered none }) ls ≡ told (refreshLocks c w ls)
+pub refresh-all-code : (c : List ℕ) (w : Waits) (ls : List ℕ) → refreshAllC c (record { waits = w; sought = soughtOf none }) ls ≡ linked (refreshLocks c w ls)
 unfolding refreshLocks
 refresh-all-code c w ls = locks-code c ls (record { waits = w; found = none })
 

@@ -6,12 +6,12 @@ use lib.Bits.{bitAnd}
 use Rattle.sets.specs.Sets.{with}
 use Rattle.graph.specs.Search.{row}
 use Rattle.graph.specs.Graph.{clearWaitEdges, addOwners}
-use Rattle.graph.specs.Code.{answered, added, sooner}
+use Rattle.graph.specs.Code.{soughtOf, added, sooner}
 use Rattle.graph.specs.declared.wait_for_graph.Added.{Added}
 use Rattle.waits.specs.Tables.{intentOf}
 use Rattle.waits.specs.Owners.{owners}
-use Rattle.waits.specs.Waiting.{Step, refresh}
-use Rattle.waits.specs.Filter.{unread, passes}
+use Rattle.waits.specs.Waiting.{Linking, refresh}
+use Rattle.waits.specs.Filter.{nobodyReads, passes}
 use Rattle.waits.specs.Attempt.{free}
 use Rattle.waits.specs.declared.tables.Waits.{Waits}
 use Rattle.waits.specs.declared.tables.Linked.{Linked}
@@ -21,22 +21,22 @@ use Rattle.waits.specs.declared.intent.WaitMode.{WaitMode}
 use Rattle.waits.specs.declared.intent.WaitMode.the-variants.{Mutex, RwRead, RwWrite}
 
 -- the code's record of a step
-abbrev pub told : Step → Linked
-told s = record { waits = s .waits; sought = answered (s .found) }
+abbrev pub linked : Linking → Linked
+linked s = record { waits = s .waits; sought = soughtOf (s .found) }
 
 -- THE CODE'S OWN STEPS
-abbrev pub afterC : Added → Added → Added
-afterC a n = record { graph = n .graph; sought = sooner (a .sought) (n .sought) }
+abbrev pub laterC : Added → Added → Added
+laterC a n = record { graph = n .graph; sought = sooner (a .sought) (n .sought) }
 
 abbrev pub renewForC : List ℕ → Waits → Added → ℕ → Awaits → Added
 renewForC c w a t Nothing = a
-renewForC c w a t (For i) = afterC a (added (addOwners t (clearWaitEdges (a .graph) t) (owners c w i)))
+renewForC c w a t (For i) = laterC a (added (addOwners t (clearWaitEdges (a .graph) t) (owners c w i)))
 
 unfoldable pub renewC : List ℕ → Waits → Added → ℕ → Added
 renewC c w a t = renewForC c w a t (intentOf w t)
 
 unfoldable pub refreshNextC : List ℕ → Linked → ℕ → Linked
-refreshNextC c k l = let n = told (refresh c (k .waits) l) in record { waits = n .waits; sought = sooner (k .sought) (n .sought) }
+refreshNextC c k l = let n = linked (refresh c (k .waits) l) in record { waits = n .waits; sought = sooner (k .sought) (n .sought) }
 
 -- a blocked try by its mode: a free lock blocks no writer, and a mutex's path must pass the filter
 abbrev pub freeFor : WaitMode → List ℕ → Waits → ℕ → Bool
@@ -58,7 +58,7 @@ commonMask holds m (t ∷ p) = commonMask holds (bitAnd m (row holds t)) p
 -- every lock of the list has a reader
 unfoldable pub allRead : List ℕ → List ℕ → Bool
 allRead c [] = true
-allRead c (l ∷ ls) = cond (unread c l) false (allRead c ls)
+allRead c (l ∷ ls) = cond (nobodyReads c l) false (allRead c ls)
 
 -- m and the locks that threads of p await
 abbrev pub withAwaited : ℕ → Awaits → ℕ

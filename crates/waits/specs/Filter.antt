@@ -19,12 +19,12 @@ allHold w l [] = true
 allHold w l (t ∷ p) = cond (has (holdsOf w t) l) (allHold w l p) false
 
 -- nobody reads l
-abbrev pub unread : List ℕ → ℕ → Bool
-unread c l = nothing (readers c l)
+abbrev pub nobodyReads : List ℕ → ℕ → Bool
+nobodyReads c l = nothing (readers c l)
 
 -- the locks that all of p hold and nobody reads, upward
 unfoldable pub commonLocks : List ℕ → Waits → List ℕ → List ℕ
-commonLocks c w p = those (λ l. cond (allHold w l p) (unread c l) false) 64
+commonLocks c w p = those (λ l. cond (allHold w l p) (nobodyReads c l) false) 64
 
 abbrev pub passes : List ℕ → Waits → List ℕ → Bool
 passes c w p = nothing (commonLocks c w p)

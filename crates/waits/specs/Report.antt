@@ -53,12 +53,12 @@ written [] = []
 written (r ∷ rs) = bytesOf r ++ written rs
 
 -- the tables after a judgement, and its reports
-pub record Said : Type 0 where
+pub record Judging : Type 0 where
   pub waits : Waits
   pub reports : List Report
 
-abbrev pub quiet : Waits → Said
+abbrev pub quiet : Waits → Judging
 quiet w = record { waits = w; reports = [] }
 
-abbrev pub saying : Waits → List ℕ → Said
-saying w p = record { waits = w; reports = report w p ∷ [] }
+abbrev pub reporting : Waits → List ℕ → Judging
+reporting w p = record { waits = w; reports = report w p ∷ [] }

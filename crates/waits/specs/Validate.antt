@@ -7,8 +7,8 @@ use lib.Dec.{eqb}
 use Rattle.sets.specs.Below.{those}
 use Rattle.waits.specs.Tables.{intentOf}
 use Rattle.waits.specs.Owners.{waitsFor}
-use Rattle.waits.specs.Waiting.{Step, refreshLocks}
-use Rattle.waits.specs.Report.{Said, quiet, saying}
+use Rattle.waits.specs.Waiting.{Linking, refreshLocks}
+use Rattle.waits.specs.Report.{Judging, quiet, reporting}
 use Rattle.waits.specs.declared.tables.Waits.{Waits}
 use Rattle.waits.specs.declared.intent.Awaits.{Awaits}
 use Rattle.waits.specs.declared.intent.Awaits.the-variants.{Nothing, For}
@@ -27,22 +27,22 @@ abbrev pub names : Awaits → ℕ → Bool
 names Nothing l = false
 names (For i) l = eqb (i .«lock_id») l
 
-unfoldable pub awaitedBy : Waits → List ℕ → ℕ → Bool
-awaitedBy w [] l = false
-awaitedBy w (t ∷ p) l = cond (names (intentOf w t) l) true (awaitedBy w p l)
+unfoldable pub someAwaits : Waits → List ℕ → ℕ → Bool
+someAwaits w [] l = false
+someAwaits w (t ∷ p) l = cond (names (intentOf w t) l) true (someAwaits w p l)
 
 -- the locks that threads of p await, upward, each once
 unfoldable pub awaitedLocks : Waits → List ℕ → List ℕ
-awaitedLocks w p = those (awaitedBy w p) 64
+awaitedLocks w p = those (someAwaits w p) 64
 
 -- after the last refresh: report that path if it validates, else nothing; no second filter
-unfoldable pub checked : List ℕ → Waits → Option (List ℕ) → Said
+unfoldable pub checked : List ℕ → Waits → Option (List ℕ) → Judging
 checked c w none = quiet w
-checked c w (some p) = cond (valid c w p) (saying w p) (quiet w)
+checked c w (some p) = cond (valid c w p) (reporting w p) (quiet w)
 
-abbrev pub again : List ℕ → Step → Said
+abbrev pub again : List ℕ → Linking → Judging
 again c s = checked c (s .waits) (s .found)
 
 -- if so, report; if not, refresh the locks its threads await, keep the first path of all, and look once more
-unfoldable pub validate : List ℕ → Waits → List ℕ → Said
-validate c w p = cond (valid c w p) (saying w p) (again c (refreshLocks c w (awaitedLocks w p)))
+unfoldable pub validate : List ℕ → Waits → List ℕ → Judging
+validate c w p = cond (valid c w p) (reporting w p) (again c (refreshLocks c w (awaitedLocks w p)))

@@ -13,7 +13,7 @@ use Rattle.waits.specs.declared.intent.Awaits.{Awaits}
 use Rattle.waits.specs.declared.intent.Awaits.the-variants.{Nothing, For}
 
 -- the tables after a rule, and the first path that it found
-pub record Step : Type 0 where
+pub record Linking : Type 0 where
   pub waits : Waits
   pub found : Option (List ℕ)
 
@@ -33,21 +33,21 @@ setIntent w t i =
     withIntents u (set (u .«thread_waits_for») t (record { awaits = For i })) (set (u .«lock_waiters») (i .«lock_id») (with (waitersOf u (i .«lock_id»)) t))
 
 -- the tables with another graph, and its path
-abbrev pub linked : Waits → Adding → Step
-linked w k = record { waits = withGraph w (k .graph); found = k .found }
+abbrev pub linking : Waits → Adding → Linking
+linking w k = record { waits = withGraph w (k .graph); found = k .found }
 
 -- .. add an edge to each blocking owner in order; keep the first path, go on with the rest
-unfoldable pub register : List ℕ → Waits → ℕ → WaitIntent → Step
-register c w t i = let u = setIntent w t i in linked u (addOwners t (u .«wait_for_graph») (owners c u i))
+unfoldable pub register : List ℕ → Waits → ℕ → WaitIntent → Linking
+register c w t i = let u = setIntent w t i in linking u (addOwners t (u .«wait_for_graph») (owners c u i))
 
 -- REFRESH a lock: its waiters are noted first; for each that has an intent, drop its edges and add one to each owner
 -- that blocks its own intent; keep the first path
-abbrev pub after : Adding → Adding → Adding
-after k n = adding (n .graph) (first (k .found) (n .found))
+abbrev pub later : Adding → Adding → Adding
+later k n = adding (n .graph) (first (k .found) (n .found))
 
 abbrev pub renewFor : List ℕ → Waits → Adding → ℕ → Awaits → Adding
 renewFor c w k t Nothing = k
-renewFor c w k t (For i) = after k (addOwners t (clearWaitEdges (k .graph) t) (owners c w i))
+renewFor c w k t (For i) = later k (addOwners t (clearWaitEdges (k .graph) t) (owners c w i))
 
 unfoldable pub renew : List ℕ → Waits → Adding → ℕ → Adding
 renew c w k t = renewFor c w k t (intentOf w t)
@@ -61,12 +61,12 @@ renewAll c w ts = foldl (renew c w) (start w) ts
 abbrev pub refreshed : List ℕ → Waits → ℕ → Adding
 refreshed c w l = renewAll c w (upward 32 (waitersOf w l))
 
-unfoldable pub refresh : List ℕ → Waits → ℕ → Step
-refresh c w l = linked w (refreshed c w l)
+unfoldable pub refresh : List ℕ → Waits → ℕ → Linking
+refresh c w l = linking w (refreshed c w l)
 
 -- several locks, one after the other; keep the first path of all
-unfoldable pub refreshNext : List ℕ → Step → ℕ → Step
+unfoldable pub refreshNext : List ℕ → Linking → ℕ → Linking
 refreshNext c s l = let r = refresh c (s .waits) l in record { waits = r .waits; found = first (s .found) (r .found) }
 
-unfoldable pub refreshLocks : List ℕ → Waits → List ℕ → Step
+unfoldable pub refreshLocks : List ℕ → Waits → List ℕ → Linking
 refreshLocks c w ls = foldl (refreshNext c) (record { waits = w; found = none }) ls

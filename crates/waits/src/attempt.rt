@@ -5,25 +5,25 @@ ghost use lib.ListN.{length};
 ghost use Rattle.graph.specs.Promises.{Fit};
 ghost use Rattle.graph.specs.Code.{foundIn, listOf};
 ghost use Rattle.waits.specs.Tables.{InRange};
-ghost use Rattle.waits.specs.Attempt.{judgedOf, settle, free, blockFor};
+ghost use Rattle.waits.specs.Attempt.{judgeFound, settle, free, blockFor};
 ghost use Rattle.waits.specs.Report.{reportBytes};
 ghost use Rattle.waits.specs.Code.{freeFor, passesFor};
-ghost use Rattle.waits.specs.Promises.{Tells};
+ghost use Rattle.waits.specs.Promises.{Judges};
 use crate::intent::WaitIntent;
 use crate::intent::WaitMode;
-use crate::tables::Told;
+use crate::tables::Judged;
 use crate::tables::Waits;
 use crate::wait::reader_mask;
-use graph::Answer;
 use graph::Path;
 use graph::Sought;
+use graph::Way;
 
 impl Waits {
     // Nothing to tell.
-    pub fn quiet(self, from: usize) -> Told
+    pub fn quiet(self, from: usize) -> Judged
         ensures { λ r. ⌜ r ≡ record { waits = self; reports = 0; used = from } ⌝ }
     {
-        Told {
+        Judged {
             waits: self,
             reports: 0,
             used: from,
@@ -31,13 +31,13 @@ impl Waits {
     }
 
     // A path found is validated.
-    fn judged(self, counts: &[u8; 2048], s: Sought, buf: &mut [u8], from: usize) -> Told
+    fn judge(self, counts: &[u8; 2048], s: Sought, buf: &mut [u8], from: usize) -> Judged
         requires { ⌜ InRange self × Fit (s .path) × (from + reportBytes ≤ length (now buf)) ⌝ }
-        ensures { λ r. ⌜ Tells r (now (buf .entry)) (now (buf .exit)) from (judgedOf (now (counts .entry)) self (foundIn s)) ⌝ }
+        ensures { λ r. ⌜ Judges r (now (buf .entry)) (now (buf .exit)) from (judgeFound (now (counts .entry)) self (foundIn s)) ⌝ }
     {
-        let answer = s.answer;
+        let way = s.way;
         let cycle = s.path;
-        let Answer::Found = answer else {
+        let Way::Found = way else {
             return self.quiet(from);
         };
         self.validated_deadlock_info(counts, cycle, buf, from)
@@ -83,15 +83,15 @@ impl Waits {
     }
 
     // Refresh l, validate a path.
-    pub fn settle(mut self, counts: &[u8; 2048], l: usize, buf: &mut [u8], from: usize) -> Told
+    pub fn settle(mut self, counts: &[u8; 2048], l: usize, buf: &mut [u8], from: usize) -> Judged
         requires { ⌜ InRange self × (l < 64) × (from + reportBytes ≤ length (now buf)) ⌝ }
-        ensures { λ r. ⌜ Tells r (now (buf .entry)) (now (buf .exit)) from (settle (now (counts .entry)) self l) ⌝ }
+        ensures { λ r. ⌜ Judges r (now (buf .entry)) (now (buf .exit)) from (settle (now (counts .entry)) self l) ⌝ }
     {
         let k = self.refresh_waiters_for_lock(counts, l);
         let graph = k.graph;
         let s = k.sought;
         self.wait_for_graph = graph;
-        self.judged(counts, s, buf, from)
+        self.judge(counts, s, buf, from)
     }
 
     // Register, judge the path. One function for all modes, so that the tables are handed on once.
@@ -103,9 +103,9 @@ impl Waits {
         mode: WaitMode,
         buf: &mut [u8],
         from: usize,
-    ) -> Told
+    ) -> Judged
         requires { ⌜ InRange self × (t < 32) × (l < 64) × (from + reportBytes ≤ length (now buf)) ⌝ }
-        ensures { λ r. ⌜ Tells r (now (buf .entry)) (now (buf .exit)) from (blockFor mode (now (counts .entry)) self t l) ⌝ }
+        ensures { λ r. ⌜ Judges r (now (buf .entry)) (now (buf .exit)) from (blockFor mode (now (counts .entry)) self t l) ⌝ }
     {
         let lock_id = l as u8;
         let i = WaitIntent { lock_id, mode };
@@ -115,9 +115,9 @@ impl Waits {
         let k = self.register_wait(counts, t, i);
         let w = k.waits;
         let s = k.sought;
-        let answer = s.answer;
+        let way = s.way;
         let cycle = s.path;
-        let Answer::Found = answer else {
+        let Way::Found = way else {
             return w.quiet(from);
         };
         if w.passes_for(counts, i, cycle) {

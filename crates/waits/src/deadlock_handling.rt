@@ -7,10 +7,10 @@ ghost use Rattle.graph.specs.Promises.{Fit};
 ghost use Rattle.graph.specs.Code.{listOf};
 ghost use Rattle.waits.specs.Tables.{InRange};
 ghost use Rattle.waits.specs.Filter.{passes};
-ghost use Rattle.waits.specs.Report.{entryBytes, reportBytes, bytesOf, report, saying};
+ghost use Rattle.waits.specs.Report.{entryBytes, reportBytes, bytesOf, report, reporting};
 ghost use Rattle.waits.specs.Code.{commonMask, allRead};
-ghost use Rattle.waits.specs.Promises.{laid, Tells};
-use crate::tables::Told;
+ghost use Rattle.waits.specs.Promises.{laid, Judges};
+use crate::tables::Judged;
 use crate::tables::Waits;
 use crate::wait::reader_mask;
 use graph::Path;
@@ -74,19 +74,19 @@ impl Waits {
             let l = slot.lock();
             buf[at] = t;
             buf[at + 1] = l;
-            at += Waits::ENTRY;
+            at += Waits::ENTRY_BYTES;
             i += 1;
         }
         at
     }
 
     // One report, from a place on.
-    pub(crate) fn report(self, cycle: Path, buf: &mut [u8], from: usize) -> Told
+    pub(crate) fn report(self, cycle: Path, buf: &mut [u8], from: usize) -> Judged
         requires { ⌜ InRange self × Fit cycle × (from + reportBytes ≤ length (now buf)) ⌝ }
-        ensures { λ r. ⌜ Tells r (now (buf .entry)) (now (buf .exit)) from (saying self (listOf cycle)) ⌝ }
+        ensures { λ r. ⌜ Judges r (now (buf .entry)) (now (buf .exit)) from (reporting self (listOf cycle)) ⌝ }
     {
         let used = self.write_report(cycle, buf, from);
-        Told {
+        Judged {
             waits: self,
             reports: 1,
             used,

@@ -28,7 +28,7 @@ pub struct Linked {
 }
 
 // The tables after a judgement, the number of reports, and the place behind them in the buffer.
-pub struct Told {
+pub struct Judged {
     pub waits: Waits,
     pub reports: usize,
     pub used: usize,
@@ -36,9 +36,9 @@ pub struct Told {
 
 impl Waits {
     // A report's entry: the thread and the lock that it awaits.
-    pub const ENTRY: usize = 2;
+    pub const ENTRY_BYTES: usize = 2;
     // The longest report: 32 entries and their number.
-    pub const REPORT: usize = 1 + 32 * Waits::ENTRY;
+    pub const REPORT_BYTES: usize = 1 + 32 * Waits::ENTRY_BYTES;
 
     pub fn new() -> Waits
         ensures { λ r. ⌜ r ≡ empty ⌝ }

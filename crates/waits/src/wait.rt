@@ -12,15 +12,15 @@ ghost use Rattle.waits.specs.Owners.{place, readers, owners, waitsFor};
 ghost use Rattle.waits.specs.Waiting.{unwaited, clear, setIntent, register, renewAll, refreshed, refreshLocks};
 ghost use Rattle.waits.specs.Validate.{valid, validate};
 ghost use Rattle.waits.specs.Report.{reportBytes};
-ghost use Rattle.waits.specs.Code.{told, renewC, refreshNextC, awaitedMask, withAwaited};
-ghost use Rattle.waits.specs.Promises.{Tells};
+ghost use Rattle.waits.specs.Code.{linked, renewC, refreshNextC, awaitedMask, withAwaited};
+ghost use Rattle.waits.specs.Promises.{Judges};
 use crate::intent::Awaits;
 use crate::intent::Slot;
 use crate::intent::WaitIntent;
 use crate::intent::WaitMode;
+use crate::tables::Judged;
 use crate::tables::Linked;
 use crate::tables::Owners;
-use crate::tables::Told;
 use crate::tables::Waits;
 use graph::Added;
 use graph::Path;
@@ -154,7 +154,7 @@ impl Waits {
 
     pub(crate) fn register_wait(self, counts: &[u8; 2048], t: usize, i: WaitIntent) -> Linked
         requires { ⌜ (t < 32) × InRange self × (i .«lock_id» < 64) ⌝ }
-        ensures { λ r. ⌜ (r ≡ told (register (now (counts .entry)) self t i)) × InRange (r .waits) ⌝ }
+        ensures { λ r. ⌜ (r ≡ linked (register (now (counts .entry)) self t i)) × InRange (r .waits) ⌝ }
     {
         let mut w = self.set_wait_intent(t, i);
         let o = w.incompatible_owners(counts, i);
@@ -216,7 +216,7 @@ impl Waits {
     // The locks of a set, upward, each once; the first path of all is kept.
     fn refresh_all(self, counts: &[u8; 2048], set: u64) -> Linked
         requires { ⌜ InRange self ⌝ }
-        ensures { λ r. ⌜ (r ≡ told (refreshLocks (now (counts .entry)) self (upward 64 set))) × InRange (r .waits) ⌝ }
+        ensures { λ r. ⌜ (r ≡ linked (refreshLocks (now (counts .entry)) self (upward 64 set))) × InRange (r .waits) ⌝ }
     {
         let sought = Sought::missing();
         let mut k = Linked {
@@ -298,9 +298,9 @@ impl Waits {
         cycle: Path,
         buf: &mut [u8],
         from: usize,
-    ) -> Told
+    ) -> Judged
         requires { ⌜ InRange self × Fit cycle × (from + reportBytes ≤ length (now buf)) ⌝ }
-        ensures { λ r. ⌜ Tells r (now (buf .entry)) (now (buf .exit)) from (validate (now (counts .entry)) self (listOf cycle)) ⌝ }
+        ensures { λ r. ⌜ Judges r (now (buf .entry)) (now (buf .exit)) from (validate (now (counts .entry)) self (listOf cycle)) ⌝ }
     {
         if self.validate_wait_cycle(counts, cycle) {
             return self.report(cycle, buf, from);
@@ -313,7 +313,7 @@ impl Waits {
         if w.validate_wait_cycle(counts, refreshed) {
             return w.report(refreshed, buf, from);
         }
-        Told {
+        Judged {
             waits: w,
             reports: 0,
             used: from,

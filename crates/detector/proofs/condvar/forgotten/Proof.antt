@@ -9,10 +9,10 @@ use Rattle.detector.proofs.condvar.forgotten.Statement.{statement}
 use Rattle.detector.proofs.condvar.forgotten.Tie as tie
 
 abbrev Inv-loop : tie.InvT-loop
-Inv-loop c waiting out₀ t₀ out t = (t ≤ 32) × (length out ≡ 32) × (out ≡ forgetBelow waiting c t)
+Inv-loop c cvWaits out₀ t₀ out t = (t ≤ 32) × (length out ≡ 32) × (out ≡ forgetBelow cvWaits c t)
 
 abbrev μ-loop : tie.MeasureT-loop
-μ-loop c waiting out₀ t₀ out t = 32 - t
+μ-loop c cvWaits out₀ t₀ out t = 32 - t
 
 loop-holds : tie.Need-loop-holds Inv-loop μ-loop
 loop-holds c = let n : length (c .args .t1) ≡ 32 = search needs in (omega arith, n, forget-none _ _)

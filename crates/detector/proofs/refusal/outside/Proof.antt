@@ -1,4 +1,4 @@
-use Rattle.detector.specs.Refusals.{outside, reportRoom}
+use Rattle.detector.specs.Refusals.{outside, bufferBytes}
 use borrow.Author.Tests.{lt-ltb, le-ltb}
 use mathlib.Core.Path.{_≡_}
 use mathlib.Core.Bool.{false}
@@ -31,12 +31,12 @@ returns-4 c =
 returns-5 : tie.Need-returns-5
 unfolding outside
 returns-5 c =
-    rw (within 31 _ (c .before .before .before .before .if1 .left), within 31 _ (c .before .before .before .if2 .left), within 63 _ (c .before .before .if3 .left), within 15 _ (c .before .if4 .left), lt-ltb _ reportRoom (c .if5 .taken))
+    rw (within 31 _ (c .before .before .before .before .if1 .left), within 31 _ (c .before .before .before .if2 .left), within 63 _ (c .before .before .if3 .left), within 15 _ (c .before .if4 .left), lt-ltb _ bufferBytes (c .if5 .taken))
 
 returns-6 : tie.Need-returns-6
 unfolding outside
 returns-6 c =
-    rw (within 31 _ (c .before .before .before .before .if1 .left), within 31 _ (c .before .before .before .if2 .left), within 63 _ (c .before .before .if3 .left), within 15 _ (c .before .if4 .left), le-ltb _ reportRoom (c .if5 .left))
+    rw (within 31 _ (c .before .before .before .before .if1 .left), within 31 _ (c .before .before .before .if2 .left), within 63 _ (c .before .before .if3 .left), within 15 _ (c .before .if4 .left), le-ltb _ bufferBytes (c .if5 .left))
 
 pub outside-spec : {M : Type 1} → statement M
 outside-spec = tie.close (tie.spec returns returns-2 returns-3 returns-4 returns-5 returns-6)

@@ -1,5 +1,5 @@
 use Rattle.graph.specs.Search.{findPath}
-use Rattle.detector.proofs.StuckLaws.{answer-found, answer-missing}
+use Rattle.detector.proofs.StuckLaws.{way-yes, way-no}
 use Rattle.graph.specs.declared.path.Sought.{Sought}
 use borrow.Author.Needs.{needs}
 use mathlib.Core.Path.{sym, ap, _∙_}
@@ -18,12 +18,12 @@ enum-told-2 c = search needs
 returns : tie.Need-returns
 returns c =
     let a = c .before .before .before .args in
-    answer-missing (findPath (a .rows) (a .u) (a .t)) (ap (λ (s : Sought). s .answer) (sym (c .before .before .find-path .ensures)) ∙ c .enum-told2 .given .1)
+    way-no (findPath (a .rows) (a .u) (a .t)) (ap (λ (s : Sought). s .way) (sym (c .before .before .find-path .ensures)) ∙ c .enum-told2 .given .1)
 
 returns-2 : tie.Need-returns-2
 returns-2 c =
     let a = c .before .before .before .args in
-    answer-found (findPath (a .rows) (a .u) (a .t)) (ap (λ (s : Sought). s .answer) (sym (c .before .before .find-path .ensures)) ∙ c .enum-told .given .1)
+    way-yes (findPath (a .rows) (a .u) (a .t)) (ap (λ (s : Sought). s .way) (sym (c .before .before .find-path .ensures)) ∙ c .enum-told .given .1)
 
 pub leads-spec : {M : Type 1} → statement M
 leads-spec = tie.close (tie.spec find-path-requires enum-told enum-told-2 returns returns-2)

@@ -15,8 +15,8 @@ abbrev μ-loop : tie.MeasureT-loop
 loop-holds : tie.Need-loop-holds Inv-loop μ-loop
 loop-holds c = (omega arith, refl, rows-none (c .args .counts .now) (c .args .w))
 
-awaited-by-requires : tie.Need-awaited-by-requires Inv-loop μ-loop
-awaited-by-requires c κs = (c .before .before .pre, omega arith)
+blocking-mask-requires : tie.Need-blocking-mask-requires Inv-loop μ-loop
+blocking-mask-requires c κs = (c .before .before .pre, omega arith)
 
 mul-rows : tie.Need-mul-rows Inv-loop μ-loop
 mul-rows c = omega arith
@@ -36,7 +36,7 @@ loop-again c =
     let a = c .before .before .before .args in (
       omega arith,
       simp length-set (l .inv .1),
-      rw (l .inv .2) (rows-more (a .counts .now) (a .w) (l .t) _ (c .awaited-by .ensures)),
+      rw (l .inv .2) (rows-more (a .counts .now) (a .w) (l .t) _ (c .blocking-mask .ensures)),
     )
 
 returns : tie.Need-returns Inv-loop μ-loop
@@ -49,7 +49,7 @@ rows-of-spec =
     Inv-loop
     μ-loop
     loop-holds
-    awaited-by-requires
+    blocking-mask-requires
     mul-rows
     array-write-rows
     add-t

@@ -1,5 +1,5 @@
 use Rattle.detector.specs.State.{blankQueue}
-use Rattle.detector.specs.Typed.{Places}
+use Rattle.detector.specs.Typed.{TypedQueue}
 use Rattle.sets.proofs.Below.{last-or}
 use native.Mathlib.Numerals.{add-one}
 use borrow.Author.Needs.{needs}
@@ -12,7 +12,7 @@ use Rattle.detector.proofs.types.queues.Statement.{statement}
 use Rattle.detector.proofs.types.queues.Tie as tie
 
 abbrev Inv-loop : tie.InvT-loop
-Inv-loop qs c₀ c = (c ≤ 16) × ((j : ℕ) → j < c → Places (getD qs j blankQueue))
+Inv-loop qs c₀ c = (c ≤ 16) × ((j : ℕ) → j < c → TypedQueue (getD qs j blankQueue))
 
 abbrev μ-loop : tie.MeasureT-loop
 μ-loop qs c₀ c = 16 - c

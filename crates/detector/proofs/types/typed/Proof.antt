@@ -22,8 +22,8 @@ intents-requires c κs = search needs
 queues-requires : tie.Need-queues-requires
 queues-requires c κs = search needs
 
-sleepers-requires : tie.Need-sleepers-requires
-sleepers-requires c κs = search needs
+cv-waits-requires : tie.Need-cv-waits-requires
+cv-waits-requires c κs = search needs
 
 returns : tie.Need-returns
 returns c =
@@ -42,9 +42,9 @@ returns c =
       readers = table _ _ _ w8 (lit≤ tt) (search needs) (λ i. search needs);
       queues = search (needs, unmapped);
       places = c .before .queues .ensures;
-      sleepers = search (needs, unmapped);
-      waits = c .sleepers .ensures;
+      cvPlaces = search (needs, unmapped);
+      cvWaits = c .cv-waits .ensures;
     }
 
 pub typed-spec : {M : Type 1} → statement M
-typed-spec = tie.close (tie.spec intents-requires queues-requires sleepers-requires returns)
+typed-spec = tie.close (tie.spec intents-requires queues-requires cv-waits-requires returns)

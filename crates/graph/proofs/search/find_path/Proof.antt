@@ -1,6 +1,6 @@
 use Rattle.graph.proofs.Trails.{count-le, met-of, on-of, none-of, start-idle}
 use Rattle.graph.specs.Promises.{Sound}
-use Rattle.graph.specs.Code.{trailOf, answered}
+use Rattle.graph.specs.Code.{trailOf, soughtOf}
 use Rattle.graph.specs.Search.{search, findPath}
 use mathlib.Core.Path.{_≡_, sym, ap, _∙_}
 use Prim.Native.Nat.{_-_, _≤_}
@@ -25,7 +25,7 @@ missing-requires : tie.Need-missing-requires Inv-loop μ-loop
 missing-requires c κs = omega arith
 
 returns : tie.Need-returns Inv-loop μ-loop
-returns c = c .missing .ensures ∙ ap answered (sym (start-idle _ _ _ (c .before .before .if1 .taken) (c .before .if2 .taken)))
+returns c = c .missing .ensures ∙ ap soughtOf (sym (start-idle _ _ _ (c .before .before .if1 .taken) (c .before .if2 .taken)))
 
 begun-requires : tie.Need-begun-requires Inv-loop μ-loop
 begun-requires c κs = omega arith
@@ -47,7 +47,7 @@ returns-2 : tie.Need-returns-2 Inv-loop μ-loop
 returns-2 c =
     let l = c .before .before .before .before .loop in
     c .found .ensures
-    ∙ ap answered (sym (met-of _ _ (l .p) (l .s) (l .inv .0) (omega arith) (c .before .if3 .taken)) ∙ l .inv .2)
+    ∙ ap soughtOf (sym (met-of _ _ (l .p) (l .s) (l .inv .0) (omega arith) (c .before .if3 .taken)) ∙ l .inv .2)
 
 mul-expand : tie.Need-mul-expand Inv-loop μ-loop
 mul-expand c = let l = c .before .before .before .loop in omega (arith, l .inv .0 .small (l .p) (omega arith))
@@ -79,7 +79,7 @@ missing-requires-2 c κs = omega arith
 returns-3 : tie.Need-returns-3 Inv-loop μ-loop
 returns-3 c =
     let l = c .before .before .loop in
-    c .missing2 .ensures ∙ ap answered (sym (none-of _ _ (l .p) (l .s) (l .inv .0) (32 - l .p) (omega arith)) ∙ l .inv .2)
+    c .missing2 .ensures ∙ ap soughtOf (sym (none-of _ _ (l .p) (l .s) (l .inv .0) (32 - l .p) (omega arith)) ∙ l .inv .2)
 
 pub find-path-spec : {M : Type 1} → statement M
 find-path-spec =

@@ -1,7 +1,7 @@
-use Rattle.detector.specs.Refusals.{reportRoom}
+use Rattle.detector.specs.Refusals.{bufferBytes}
 use Rattle.transcript.specs.Promises.{IsRun}
 use Rattle.transcript.proofs.Feeding.{begins-kept}
-use Rattle.runner.specs.Code.{space}
+use Rattle.runner.specs.Code.{outBytes}
 use borrow.Author.Needs.{needs}
 use borrow.Author.Tests.{eqb-true}
 use mathlib.Core.Path.{_≡_, refl, _∙_}
@@ -13,7 +13,7 @@ use Rattle.runner.proofs.chunks.run_script.Statement.{statement}
 use Rattle.runner.proofs.chunks.run_script.Tie as tie
 
 abbrev Inv-loop : tie.InvT-loop
-Inv-loop tables fd inp₀ carry₀ out₀ buf₀ r₀ over₀ turns₀ inp carry out buf r over turns = IsRun r carry × (length out ≡ space) × (length buf ≡ reportRoom) × (turns < 2 ^ 64) × (length inp ≡ length inp₀) × (length carry ≡ length carry₀) × (length out ≡ length out₀) × (length buf ≡ length buf₀)
+Inv-loop tables fd inp₀ carry₀ out₀ buf₀ r₀ over₀ turns₀ inp carry out buf r over turns = IsRun r carry × (length out ≡ outBytes) × (length buf ≡ bufferBytes) × (turns < 2 ^ 64) × (length inp ≡ length inp₀) × (length carry ≡ length carry₀) × (length out ≡ length out₀) × (length buf ≡ length buf₀)
 
 abbrev μ-loop : tie.MeasureT-loop
 μ-loop tables fd inp₀ carry₀ out₀ buf₀ r₀ over₀ turns₀ inp carry out buf r over turns = turns

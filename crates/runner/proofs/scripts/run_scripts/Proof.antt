@@ -1,6 +1,6 @@
-use Rattle.detector.specs.Refusals.{reportRoom}
-use Rattle.text.specs.Lines.{carrySize}
-use Rattle.runner.specs.Code.{space}
+use Rattle.detector.specs.Refusals.{bufferBytes}
+use Rattle.text.specs.Lines.{carryBytes}
+use Rattle.runner.specs.Code.{outBytes}
 use borrow.Author.Needs.{needs}
 use mathlib.Core.Path.{_≡_}
 use Prim.Native.Nat.{_-_}
@@ -9,7 +9,7 @@ use Rattle.runner.proofs.scripts.run_scripts.Statement.{statement}
 use Rattle.runner.proofs.scripts.run_scripts.Tie as tie
 
 abbrev Inv-loop : tie.InvT-loop
-Inv-loop program tables inp₀ out₀ carry₀ buf₀ n i₀ inp out carry buf i = (length inp ≡ 65536) × (length carry ≡ carrySize) × (length out ≡ space) × (length buf ≡ reportRoom)
+Inv-loop program tables inp₀ out₀ carry₀ buf₀ n i₀ inp out carry buf i = (length inp ≡ 65536) × (length carry ≡ carryBytes) × (length out ≡ outBytes) × (length buf ≡ bufferBytes)
 
 abbrev μ-loop : tie.MeasureT-loop
 μ-loop program tables inp₀ out₀ carry₀ buf₀ n i₀ inp out carry buf i = n - i
@@ -38,11 +38,11 @@ slice-aggregate-run-script-4 c = search needs
 run-script-requires : tie.Need-run-script-requires Inv-loop μ-loop
 run-script-requires c κs = search needs
 
-slice-aggregate-tell : tie.Need-slice-aggregate-tell Inv-loop μ-loop
-slice-aggregate-tell c = search needs
+slice-aggregate-explain : tie.Need-slice-aggregate-explain Inv-loop μ-loop
+slice-aggregate-explain c = search needs
 
-tell-requires : tie.Need-tell-requires Inv-loop μ-loop
-tell-requires c κs = search needs
+explain-requires : tie.Need-explain-requires Inv-loop μ-loop
+explain-requires c κs = search needs
 
 returns : tie.Need-returns Inv-loop μ-loop
 returns c = search needs
@@ -94,8 +94,8 @@ run-scripts-spec =
     slice-aggregate-run-script-3
     slice-aggregate-run-script-4
     run-script-requires
-    slice-aggregate-tell
-    tell-requires
+    slice-aggregate-explain
+    explain-requires
     returns
     loop-holds
     slice-aggregate-run-file

@@ -1,6 +1,6 @@
 use Rattle.text.proofs.Kept.{kept-all, kept-full, kept-more}
 use mathlib.Core.List.{_++_}
-use Rattle.text.specs.Lines.{carrySize}
+use Rattle.text.specs.Lines.{carryBytes}
 use borrow.Author.Needs.{needs}
 use mathlib.Core.Path.{_≡_, refl, ap, _∙_}
 use Prim.Native.Nat.{_-_, _<_, _≤_}
@@ -10,7 +10,7 @@ use Rattle.text.proofs.carry.keep.Statement.{statement}
 use Rattle.text.proofs.carry.keep.Tie as tie
 
 abbrev Inv-loop : tie.InvT-loop
-Inv-loop carry₀ have part h₀ i₀ carry h i = (length carry ≡ carrySize) × (h ≤ carrySize) × (i ≤ length part) × (take h carry ++ drop i part ≡ take have carry₀ ++ part)
+Inv-loop carry₀ have part h₀ i₀ carry h i = (length carry ≡ carryBytes) × (h ≤ carryBytes) × (i ≤ length part) × (take h carry ++ drop i part ≡ take have carry₀ ++ part)
 
 abbrev μ-loop : tie.MeasureT-loop
 μ-loop carry₀ have part h₀ i₀ carry h i = length part - i
@@ -24,7 +24,7 @@ same-length c = search needs
 returns : tie.Need-returns Inv-loop μ-loop
 returns c =
     let i = c .before .before .loop .inv in
-    (i .1, kept-full _ _ _ (i .0) (c .if1 .taken) ∙ ap (take carrySize) (i .3))
+    (i .1, kept-full _ _ _ (i .0) (c .if1 .taken) ∙ ap (take carryBytes) (i .3))
 
 shared-slice-read-carry : tie.Need-shared-slice-read-carry Inv-loop μ-loop
 shared-slice-read-carry c = search needs
@@ -53,7 +53,7 @@ same-length-2 c = search needs
 returns-2 : tie.Need-returns-2 Inv-loop μ-loop
 returns-2 c =
     let i = c .before .loop .inv in
-    (i .1, kept-all _ (c .before .before .args .part .now) _ _ (i .1) (c .loop-test .left) ∙ ap (take carrySize) (i .3))
+    (i .1, kept-all _ (c .before .before .args .part .now) _ _ (i .1) (c .loop-test .left) ∙ ap (take carryBytes) (i .3))
 
 pub keep-spec : {M : Type 1} → statement M
 keep-spec =

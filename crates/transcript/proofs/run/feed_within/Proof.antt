@@ -1,7 +1,7 @@
-use Rattle.transcript.proofs.Answering.{Met, met-served, met-refused, met-unread}
-use Rattle.transcript.proofs.Turning.{Goes, told-room, told-line, carried-turn, line-turn}
+use Rattle.transcript.proofs.Answering.{Met, met-served, met-refused, met-unreadable}
+use Rattle.transcript.proofs.Turning.{Goes, answered-room, answered-line, carried-turn, line-turn}
 use Rattle.transcript.proofs.Feeding.{goes-none, goes-on, goes-done}
-use Rattle.detector.specs.Refusals.{reportRoom}
+use Rattle.detector.specs.Refusals.{bufferBytes}
 use Rattle.answers.proofs.Bounds.{Bytes}
 use Rattle.detector.specs.State.{tables, Valid}
 use Rattle.detector.proofs.Numbers.{Accepted, accepted, room-left}
@@ -18,7 +18,7 @@ use Rattle.transcript.proofs.run.feed_within.Tie as tie
 abbrev Inv-loop : tie.InvT-loop
 Inv-loop carry₀ chunk from out₀ at buf₀ s₀ n₀ h₀ i₀ to₀ carry out buf s n h i to =
     Goes (record { detector = s₀; lines = n₀; have = h₀ }) carry₀ chunk from out₀ at carry out (record { detector = s; lines = n; have = h }) i to
-    × (length buf ≡ reportRoom) × Bytes buf × (length carry ≡ length carry₀) × (length out ≡ length out₀) × (length buf ≡ length buf₀) × (to ≤ length out)
+    × (length buf ≡ bufferBytes) × Bytes buf × (length carry ≡ length carry₀) × (length out ≡ length out₀) × (length buf ≡ length buf₀) × (to ≤ length out)
 
 abbrev μ-loop : tie.MeasureT-loop
 μ-loop carry₀ chunk from out₀ at buf₀ s₀ n₀ h₀ i₀ to₀ carry out buf s n h i to = length chunk - i
@@ -308,7 +308,7 @@ met c =
       | inr (inr (inr (inr (inr (inr (inr (inr (inr (inr (inr (inr (inr (inr (inr (inr (inl w)))))))))))))))) ↦ met-served g n (w .1 .given .1) (w .3 .ensures) (w .4 .taken) (w .6 .given .1) (w .9 .ensures) (w .9 .kept .1 .1 .0) (λ i. omega (arith, w .11 .given i)) (w .13) (w .14) (w .15)
       | inr (inr (inr (inr (inr (inr (inr (inr (inr (inr (inr (inr (inr (inr (inr (inr (inr (inl w))))))))))))))))) ↦ met-served g n (w .1 .given .1) (w .3 .ensures) (w .4 .taken) (w .6 .given .1) (w .8 .ensures (l .buf)) refl (l .inv .2) (w .10) (w .11) (w .12)
       | inr (inr (inr (inr (inr (inr (inr (inr (inr (inr (inr (inr (inr (inr (inr (inr (inr (inr (inl w)))))))))))))))))) ↦ met-refused g n (l .inv .2) (w .1 .given .1) (w .3 .ensures) (w .4 .left) (w .5) (w .6) (w .7)
-      | inr (inr (inr (inr (inr (inr (inr (inr (inr (inr (inr (inr (inr (inr (inr (inr (inr (inr (inr w)))))))))))))))))) ↦ met-unread g n (l .inv .2) (w .1 .given .1) (w .2) (w .3) (w .4)
+      | inr (inr (inr (inr (inr (inr (inr (inr (inr (inr (inr (inr (inr (inr (inr (inr (inr (inr (inr w)))))))))))))))))) ↦ met-unreadable g n (l .inv .2) (w .1 .given .1) (w .2) (w .3) (w .4)
     ]
 
 add-n : tie.Need-add-n Inv-loop μ-loop
@@ -318,7 +318,7 @@ put-answer-requires : tie.Need-put-answer-requires Inv-loop μ-loop
 put-answer-requires c κs =
     let v = c .before .before .before .before .before .before .before .before .before .before .before .before .before .loop .inv in
     let m = met (c .before .before) in
-    told-room _ _ _ _ (omega (arith, v .0 .moves .kept .lines)) (m .bytes) (m .results) _ _ (m .long ∙ v .1) (omega (arith, c .before .before .before .before .before .before .before .before .before .before .if2 .left, v .6))
+    answered-room _ _ _ _ (omega (arith, v .0 .moves .kept .lines)) (m .bytes) (m .results) _ _ (m .long ∙ v .1) (omega (arith, c .before .before .before .before .before .before .before .before .before .before .if2 .left, v .6))
 
 chunk-fits : (c : tie.Start Inv-loop μ-loop) → length (c .args .chunk .now) < 2 ^ 64
 chunk-fits c = search needs
@@ -337,7 +337,7 @@ loop-again c =
     let p = c .before .before .put-answer in
     let f = c .before .before .before .before .before .before .before .before .before .before .before .before .up-to in
     let r = c .before .before .before .before .before .before .before .before .line-of in
-    let t = told-line _ _ _ _ (omega (arith, v .0 .moves .kept .lines)) (m .bytes) (m .results) _ _ _ _ (p .ensures) in (
+    let t = answered-line _ _ _ _ (omega (arith, v .0 .moves .kept .lines)) (m .bytes) (m .results) _ _ _ _ (p .ensures) in (
       goes-on (v .0)
           (line-turn (record { detector = l .s; lines = l .n; have = l .h }) (l .carry) (r .last .0) _ (l .out) (p .last .0) (l .i) (f .result) (l .to) (p .result) (c .before .before .before .before .before .match .s) (r .result)
           (v .0 .moves .kept) (omega (arith, v .0 .moves .kept .lines, c .before .before .before .before .before .before .before .before .before .before .before .before .before .before .if1 .left)) (c .before .before .before .before .before .before .before .before .before .before .before .before .before .before .before .loop-test .taken) (f .ensures) (c .before .before .before .before .before .before .before .before .before .before .before .if3 .left) (r .kept .0) (r .ensures) t),

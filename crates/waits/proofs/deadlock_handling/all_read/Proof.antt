@@ -1,4 +1,4 @@
-use Rattle.waits.proofs.Masks.{unread-zero, unread-some, read-stop, read-step, read-end}
+use Rattle.waits.proofs.Masks.{nobody-zero, nobody-some, read-stop, read-step, read-end}
 use Rattle.waits.specs.Code.{allRead}
 use Rattle.sets.specs.Sets.{upward}
 use borrow.Author.Needs.{needs}
@@ -26,7 +26,7 @@ reader-mask-requires c κs = omega arith
 returns : tie.Need-returns Inv-loop μ-loop
 returns c =
     let l = c .before .before .before .before .loop in
-    read-stop _ _ (omega arith) (l .inv .0) (rw (← c .before .before .lowest .ensures .0) (unread-zero _ _ _ (c .before .reader-mask .ensures) (c .if1 .taken)))
+    read-stop _ _ (omega arith) (l .inv .0) (rw (← c .before .before .lowest .ensures .0) (nobody-zero _ _ _ (c .before .reader-mask .ensures) (c .if1 .taken)))
     ∙ l .inv .1
 
 rest-requires : tie.Need-rest-requires Inv-loop μ-loop
@@ -42,7 +42,7 @@ loop-again c =
       rw (c .rest .ensures .0)
           (read-step _ _ (omega arith) (l .inv .0)
           (rw (← c .before .before .before .lowest .ensures .0)
-          (unread-some _ _ _ (c .before .before .reader-mask .ensures) (omega arith) (omega arith))))
+          (nobody-some _ _ _ (c .before .before .reader-mask .ensures) (omega arith) (omega arith))))
           ∙ l .inv .1,
     )
 

@@ -1,4 +1,4 @@
-use Rattle.detector.proofs.Promises.{redo, does-told, does-counts, not-full, as-taken, read-blocked}
+use Rattle.detector.proofs.Promises.{redo, does-judges, does-counts, not-full, as-taken, read-blocked}
 use Rattle.detector.specs.RwLock.{completeRead, acquireRead, readAttempt}
 use Rattle.detector.specs.Refusals.{fullAttempt}
 use Rattle.detector.specs.Code.{hinted}
@@ -28,14 +28,14 @@ hinted-requires c κs = let s = c .before .before .before .before .before in (s 
 written-by-requires : tie.Need-written-by-requires
 written-by-requires c κs = search needs
 
-readers-requires : tie.Need-readers-requires
-readers-requires c κs = search needs
+counts-requires : tie.Need-counts-requires
+counts-requires c κs = search needs
 
 attempt-requires : tie.Need-attempt-requires
 attempt-requires c κs = search needs
 
-told-requires : tie.Need-told-requires
-told-requires c κs = search needs
+with-judged-requires : tie.Need-with-judged-requires
+with-judged-requires c κs = search needs
 
 same-length : tie.Need-same-length
 same-length c = search needs
@@ -49,14 +49,14 @@ returns c =
     let s = i .before .before .before .before in
     let a = s .args in
     redo (read-blocked (tables (a .self)) (a .t) (a .l) (a .o) (sym (i .before .was-blocked .ensures) ∙ i .if1 .taken))
-    (does-told (a .self) _ _ _ _ (block (a .self .«rwlock_readers») (write (a .self .waits) (a .l) (hinted (writerOf (a .self .waits) (a .l)) (a .o))) (a .t) (readOn (a .l)))
-    (c .told .ensures) (s .pre .0) (rw (k .before .before .before .readers .ensures, k .before .before .before .before .written-by .ensures .0, h .hinted .ensures .0) at (k .attempt .ensures)))
+    (does-judges (a .self) _ _ _ _ (block (a .self .«rwlock_readers») (write (a .self .waits) (a .l) (hinted (writerOf (a .self .waits) (a .l)) (a .o))) (a .t) (readOn (a .l)))
+    (c .with-judged .ensures) (s .pre .0) (rw (k .before .before .before .counts .ensures, k .before .before .before .before .written-by .ensures .0, h .hinted .ensures .0) at (k .attempt .ensures)))
 
 clear-wait-intent-requires : tie.Need-clear-wait-intent-requires
 clear-wait-intent-requires c κs = search needs
 
-readers-requires-2 : tie.Need-readers-requires-2
-readers-requires-2 c κs = search needs
+counts-requires-2 : tie.Need-counts-requires-2
+counts-requires-2 c κs = search needs
 
 counted-up-requires : tie.Need-counted-up-requires
 counted-up-requires c κs =
@@ -65,7 +65,7 @@ counted-up-requires c κs =
     let a = s .args in
     let x = tables (a .self) in
     let z = as-taken (fullAttempt x (a .t) (a .l)) (a .o) (sym (i .before .was-blocked .ensures) ∙ i .if1 .left) ∙ s .pre .4 in
-    (s .pre .1, s .pre .2, rw (c .readers2 .ensures) (not-full x (a .t) (a .l) z))
+    (s .pre .1, s .pre .2, rw (c .counts3 .ensures) (not-full x (a .t) (a .l) z))
 
 with-counts-requires : tie.Need-with-counts-requires
 with-counts-requires c κs = search needs
@@ -78,7 +78,7 @@ returns-2 c =
     let a = s .args in
     let w = c .before .before .before .clear-wait-intent .ensures in
     redo
-    (ap₂ (λ w k. silent (withCounts (tables (a .self)) w k)) (w .0) (c .before .counted-up .ensures ∙ rw (c .before .before .readers2 .ensures))
+    (ap₂ (λ w k. silent (withCounts (tables (a .self)) w k)) (w .0) (c .before .counted-up .ensures ∙ rw (c .before .before .counts3 .ensures))
     ∙ as-taken (readAttempt (tables (a .self)) (a .t) (a .l)) (a .o) (sym (i .before .was-blocked .ensures) ∙ i .if1 .left))
     (does-counts (a .self) _ _ _ (c .with-counts .ensures) (s .pre .0) (w .1) _)
 
@@ -91,13 +91,13 @@ acquire-read-slow-with-recheck-spec =
     cast-before
     hinted-requires
     written-by-requires
-    readers-requires
+    counts-requires
     attempt-requires
-    told-requires
+    with-judged-requires
     same-length
     returns
     clear-wait-intent-requires
-    readers-requires-2
+    counts-requires-2
     counted-up-requires
     with-counts-requires
     returns-2)

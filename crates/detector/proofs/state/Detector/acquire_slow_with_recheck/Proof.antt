@@ -1,8 +1,8 @@
-use Rattle.detector.proofs.Promises.{redo, does-told, idle-tells, tells-length, as-taken, mutex-blocked}
+use Rattle.detector.proofs.Promises.{redo, does-judges, idle-judges, judges-length, as-taken, mutex-blocked}
 use Rattle.detector.specs.Mutex.{acquired, completeAcquire, acquireSlow, mutexAttempt}
 use Rattle.detector.specs.Code.{hinted}
 use Rattle.detector.specs.State.{tables}
-use Rattle.waits.specs.Promises.{Tells}
+use Rattle.waits.specs.Promises.{Judges}
 use Rattle.waits.specs.Tables.{ownerOf, own}
 use Rattle.waits.specs.Attempt.{settle, blockMutex}
 use borrow.Author.Needs.{needs}
@@ -13,11 +13,11 @@ use Rattle.detector.proofs.state.Detector.acquire_slow_with_recheck.Tie
 
 -- where the arms meet: nobody waits, or the look has told
 met : (c : tie.Joined2)
-    → Tells (c .if2 .d) (c .before .before .before .before .before .before .before .before .before .args .buf .now) (c .if2 .buf) 0 (settle (c .before .before .before .before .before .before .before .before .before .args .self .«rwlock_readers») (c .before .before .before .gained .result) (c .before .before .before .before .before .before .before .before .before .args .l))
+    → Judges (c .if2 .d) (c .before .before .before .before .before .before .before .before .before .args .buf .now) (c .if2 .buf) 0 (settle (c .before .before .before .before .before .before .before .before .before .args .self .«rwlock_readers») (c .before .before .before .gained .result) (c .before .before .before .before .before .before .before .before .before .args .l))
 met c =
     ⊎-elim
     (λ z. rw (z .7, z .8) (rw (z .1 .ensures) at (z .4 .ensures)))
-    (λ z. rw (z .1, z .2) (idle-tells _ _ _ _ _ (c .before .before .quiet .ensures) (c .before .before .before .gained .ensures .1) (z .0 .left)))
+    (λ z. rw (z .1, z .2) (idle-judges _ _ _ _ _ (c .before .before .quiet .ensures) (c .before .before .before .gained .ensures .1) (z .0 .left)))
     (c .if2 .came)
 
 was-blocked-requires : tie.Need-was-blocked-requires
@@ -35,14 +35,14 @@ hinted-requires c κs = let s = c .before .before .before .before .before in (s 
 owned-requires : tie.Need-owned-requires
 owned-requires c κs = search needs
 
-readers-requires : tie.Need-readers-requires
-readers-requires c κs = search needs
+counts-requires : tie.Need-counts-requires
+counts-requires c κs = search needs
 
 attempt-requires : tie.Need-attempt-requires
 attempt-requires c κs = search needs
 
-told-requires : tie.Need-told-requires
-told-requires c κs = search needs
+with-judged-requires : tie.Need-with-judged-requires
+with-judged-requires c κs = search needs
 
 same-length : tie.Need-same-length
 same-length c = search needs
@@ -56,8 +56,8 @@ returns c =
     let s = i .before .before .before .before in
     let a = s .args in
     redo (mutex-blocked (tables (a .self)) (a .t) (a .l) (a .o) (sym (i .before .was-blocked .ensures) ∙ i .if1 .taken))
-    (does-told (a .self) _ _ _ _ (blockMutex (a .self .«rwlock_readers») (own (a .self .waits) (a .l) (hinted (ownerOf (a .self .waits) (a .l)) (a .o))) (a .t) (a .l))
-    (c .told .ensures) (s .pre .0) (rw (k .before .before .before .readers .ensures, k .before .before .before .before .owned .ensures .0, h .hinted .ensures .0) at (k .attempt .ensures)))
+    (does-judges (a .self) _ _ _ _ (blockMutex (a .self .«rwlock_readers») (own (a .self .waits) (a .l) (hinted (ownerOf (a .self .waits) (a .l)) (a .o))) (a .t) (a .l))
+    (c .with-judged .ensures) (s .pre .0) (rw (k .before .before .before .counts .ensures, k .before .before .before .before .owned .ensures .0, h .hinted .ensures .0) at (k .attempt .ensures)))
 
 owned-requires-2 : tie.Need-owned-requires-2
 owned-requires-2 c κs = search needs
@@ -74,17 +74,17 @@ mul-if2 c = search needs
 element-copy-out-if2 : tie.Need-element-copy-out-if2
 element-copy-out-if2 c = search needs
 
-readers-requires-2 : tie.Need-readers-requires-2
-readers-requires-2 c κs = search needs
+counts-requires-2 : tie.Need-counts-requires-2
+counts-requires-2 c κs = search needs
 
 settle-requires : tie.Need-settle-requires
 settle-requires c κs = search needs
 
-told-requires-2 : tie.Need-told-requires-2
-told-requires-2 c κs = search needs
+with-judged-requires-2 : tie.Need-with-judged-requires-2
+with-judged-requires-2 c κs = search needs
 
 same-length-2 : tie.Need-same-length-2
-same-length-2 c = tells-length (met (c .before))
+same-length-2 c = judges-length (met (c .before))
 
 returns-2 : tie.Need-returns-2
 unfolding completeAcquire acquired
@@ -93,7 +93,7 @@ returns-2 c =
     let s = i .before .before .before .before in
     let a = s .args in
     redo (rw (c .before .before .before .before .gained .ensures .0, c .before .before .before .before .before .owned2 .ensures .0) (as-taken (mutexAttempt (tables (a .self)) (a .t) (a .l)) (a .o) (sym (i .before .was-blocked .ensures) ∙ i .if1 .left)))
-    (does-told (a .self) _ _ _ _ _ (c .told2 .ensures) (s .pre .0) (met (c .before)))
+    (does-judges (a .self) _ _ _ _ _ (c .with-judged2 .ensures) (s .pre .0) (met (c .before)))
 
 pub acquire-slow-with-recheck-spec : {M : Type 1} → statement M
 acquire-slow-with-recheck-spec =
@@ -104,9 +104,9 @@ acquire-slow-with-recheck-spec =
     cast-before
     hinted-requires
     owned-requires
-    readers-requires
+    counts-requires
     attempt-requires
-    told-requires
+    with-judged-requires
     same-length
     returns
     owned-requires-2
@@ -114,8 +114,8 @@ acquire-slow-with-recheck-spec =
     quiet-requires
     mul-if2
     element-copy-out-if2
-    readers-requires-2
+    counts-requires-2
     settle-requires
-    told-requires-2
+    with-judged-requires-2
     same-length-2
     returns-2)

@@ -15,8 +15,8 @@ acquire-slow-with-recheck-requires c κs =
     let a = rw (c .before .before .e .given .1) at (accepted (tables (s .args .self)) _ _ (s .pre .1)) in
     (s .pre .0, a .inside .thread, a .inside .lock, a .inside .hint, a .inside .room)
 
-answered-requires : tie.Need-answered-requires
-answered-requires c κs = search needs
+served-requires : tie.Need-served-requires
+served-requires c κs = search needs
 
 enum-known-e-2 : tie.Need-enum-known-e-2
 enum-known-e-2 c = search needs
@@ -27,8 +27,8 @@ complete-acquire-requires c κs =
     let a = rw (c .before .before .e2 .given .1) at (accepted (tables (s .args .self)) _ _ (s .pre .1)) in
     (s .pre .0, a .inside .thread, a .inside .lock, a .inside .room)
 
-answered-requires-2 : tie.Need-answered-requires-2
-answered-requires-2 c κs = search needs
+served-requires-2 : tie.Need-served-requires-2
+served-requires-2 c κs = search needs
 
 enum-known-e-3 : tie.Need-enum-known-e-3
 enum-known-e-3 c = search needs
@@ -39,8 +39,8 @@ release-mutex-requires c κs =
     let a = rw (c .before .e3 .given .1) at (accepted (tables (s .args .self)) _ _ (s .pre .1)) in
     (s .pre .0, a .inside .thread, a .inside .lock)
 
-answered-requires-3 : tie.Need-answered-requires-3
-answered-requires-3 c κs = search needs
+served-requires-3 : tie.Need-served-requires-3
+served-requires-3 c κs = search needs
 
 enum-known-e-4 : tie.Need-enum-known-e-4
 enum-known-e-4 c = search needs
@@ -51,8 +51,8 @@ destroy-mutex-requires c κs =
     let a = rw (c .before .e4 .given .1) at (accepted (tables (s .args .self)) _ _ (s .pre .1)) in
     (s .pre .0, a .inside .lock)
 
-answered-requires-4 : tie.Need-answered-requires-4
-answered-requires-4 c κs = search needs
+served-requires-4 : tie.Need-served-requires-4
+served-requires-4 c κs = search needs
 
 enum-known-e-5 : tie.Need-enum-known-e-5
 enum-known-e-5 c = search needs
@@ -63,8 +63,8 @@ acquire-read-slow-with-recheck-requires c κs =
     let a = rw (c .before .before .e5 .given .1) at (accepted (tables (s .args .self)) _ _ (s .pre .1)) in
     (s .pre .0, a .inside .thread, a .inside .lock, a .inside .hint, a .notFull, a .inside .room)
 
-answered-requires-5 : tie.Need-answered-requires-5
-answered-requires-5 c κs = search needs
+served-requires-5 : tie.Need-served-requires-5
+served-requires-5 c κs = search needs
 
 enum-known-e-6 : tie.Need-enum-known-e-6
 enum-known-e-6 c = search needs
@@ -75,8 +75,8 @@ complete-read-requires c κs =
     let a = rw (c .before .e6 .given .1) at (accepted (tables (s .args .self)) _ _ (s .pre .1)) in
     (s .pre .0, a .inside .thread, a .inside .lock, not-full (tables (s .args .self)) _ _ (a .notFull))
 
-answered-requires-6 : tie.Need-answered-requires-6
-answered-requires-6 c κs = search needs
+served-requires-6 : tie.Need-served-requires-6
+served-requires-6 c κs = search needs
 
 enum-known-e-7 : tie.Need-enum-known-e-7
 enum-known-e-7 c = search needs
@@ -87,8 +87,8 @@ try-read-nonblocking-requires c κs =
     let a = rw (c .before .e7 .given .1) at (accepted (tables (s .args .self)) _ _ (s .pre .1)) in
     (s .pre .0, a .inside .thread, a .inside .lock, a .notFull)
 
-answered-requires-7 : tie.Need-answered-requires-7
-answered-requires-7 c κs = search needs
+served-requires-7 : tie.Need-served-requires-7
+served-requires-7 c κs = search needs
 
 enum-known-e-8 : tie.Need-enum-known-e-8
 enum-known-e-8 c = search needs
@@ -99,8 +99,8 @@ release-read-requires c κs =
     let a = rw (c .before .e8 .given .1) at (accepted (tables (s .args .self)) _ _ (s .pre .1)) in
     (s .pre .0, a .inside .thread, a .inside .lock)
 
-answered-requires-8 : tie.Need-answered-requires-8
-answered-requires-8 c κs = search needs
+served-requires-8 : tie.Need-served-requires-8
+served-requires-8 c κs = search needs
 
 enum-known-e-9 : tie.Need-enum-known-e-9
 enum-known-e-9 c = search needs
@@ -111,8 +111,8 @@ acquire-write-slow-with-recheck-requires c κs =
     let a = rw (c .before .before .e9 .given .1) at (accepted (tables (s .args .self)) _ _ (s .pre .1)) in
     (s .pre .0, a .inside .thread, a .inside .lock, a .inside .hint, a .inside .room)
 
-answered-requires-9 : tie.Need-answered-requires-9
-answered-requires-9 c κs = search needs
+served-requires-9 : tie.Need-served-requires-9
+served-requires-9 c κs = search needs
 
 enum-known-e-10 : tie.Need-enum-known-e-10
 enum-known-e-10 c = search needs
@@ -123,8 +123,8 @@ complete-write-requires c κs =
     let a = rw (c .before .before .e10 .given .1) at (accepted (tables (s .args .self)) _ _ (s .pre .1)) in
     (s .pre .0, a .inside .thread, a .inside .lock, a .inside .room)
 
-answered-requires-10 : tie.Need-answered-requires-10
-answered-requires-10 c κs = search needs
+served-requires-10 : tie.Need-served-requires-10
+served-requires-10 c κs = search needs
 
 enum-known-e-11 : tie.Need-enum-known-e-11
 enum-known-e-11 c = search needs
@@ -135,8 +135,8 @@ release-write-requires c κs =
     let a = rw (c .before .e11 .given .1) at (accepted (tables (s .args .self)) _ _ (s .pre .1)) in
     (s .pre .0, a .inside .thread, a .inside .lock)
 
-answered-requires-11 : tie.Need-answered-requires-11
-answered-requires-11 c κs = search needs
+served-requires-11 : tie.Need-served-requires-11
+served-requires-11 c κs = search needs
 
 enum-known-e-12 : tie.Need-enum-known-e-12
 enum-known-e-12 c = search needs
@@ -147,8 +147,8 @@ destroy-rwlock-requires c κs =
     let a = rw (c .before .e12 .given .1) at (accepted (tables (s .args .self)) _ _ (s .pre .1)) in
     (s .pre .0, a .inside .lock)
 
-answered-requires-12 : tie.Need-answered-requires-12
-answered-requires-12 c κs = search needs
+served-requires-12 : tie.Need-served-requires-12
+served-requires-12 c κs = search needs
 
 enum-known-e-13 : tie.Need-enum-known-e-13
 enum-known-e-13 c = search needs
@@ -159,8 +159,8 @@ create-condvar-requires c κs =
     let a = rw (c .before .e13 .given .1) at (accepted (tables (s .args .self)) _ _ (s .pre .1)) in
     (s .pre .0, a .inside .condvar)
 
-answered-requires-13 : tie.Need-answered-requires-13
-answered-requires-13 c κs = search needs
+served-requires-13 : tie.Need-served-requires-13
+served-requires-13 c κs = search needs
 
 enum-known-e-14 : tie.Need-enum-known-e-14
 enum-known-e-14 c = search needs
@@ -171,8 +171,8 @@ destroy-condvar-requires c κs =
     let a = rw (c .before .e14 .given .1) at (accepted (tables (s .args .self)) _ _ (s .pre .1)) in
     (s .pre .0, a .inside .condvar)
 
-answered-requires-14 : tie.Need-answered-requires-14
-answered-requires-14 c κs = search needs
+served-requires-14 : tie.Need-served-requires-14
+served-requires-14 c κs = search needs
 
 enum-known-e-15 : tie.Need-enum-known-e-15
 enum-known-e-15 c = search needs
@@ -183,8 +183,8 @@ begin-wait-requires c κs =
     let a = rw (c .before .e15 .given .1) at (accepted (tables (s .args .self)) _ _ (s .pre .1)) in
     (s .pre .0, a .inside .thread, a .inside .condvar, a .inside .lock, room-left (s .args .self) _ (s .pre .0) (a .inside .condvar) (a .notFull))
 
-answered-requires-15 : tie.Need-answered-requires-15
-answered-requires-15 c κs = search needs
+served-requires-15 : tie.Need-served-requires-15
+served-requires-15 c κs = search needs
 
 enum-known-e-16 : tie.Need-enum-known-e-16
 enum-known-e-16 c = search needs
@@ -195,8 +195,8 @@ notify-one-requires c κs =
     let a = rw (c .before .before .e16 .given .1) at (accepted (tables (s .args .self)) _ _ (s .pre .1)) in
     (s .pre .0, a .inside .condvar, a .inside .room)
 
-answered-requires-16 : tie.Need-answered-requires-16
-answered-requires-16 c κs = search needs
+served-requires-16 : tie.Need-served-requires-16
+served-requires-16 c κs = search needs
 
 enum-known-e-17 : tie.Need-enum-known-e-17
 enum-known-e-17 c = search needs
@@ -207,8 +207,8 @@ notify-all-requires c κs =
     let a = rw (c .before .before .e17 .given .1) at (accepted (tables (s .args .self)) _ _ (s .pre .1)) in
     (s .pre .0, a .inside .condvar, a .inside .room)
 
-answered-requires-17 : tie.Need-answered-requires-17
-answered-requires-17 c κs = search needs
+served-requires-17 : tie.Need-served-requires-17
+served-requires-17 c κs = search needs
 
 enum-known-e-18 : tie.Need-enum-known-e-18
 enum-known-e-18 c = search needs
@@ -219,83 +219,83 @@ end-wait-requires c κs =
     let a = rw (c .before .e18 .given .1) at (accepted (tables (s .args .self)) _ _ (s .pre .1)) in
     (s .pre .0, a .inside .thread, a .inside .condvar, a .inside .lock)
 
-answered-requires-18 : tie.Need-answered-requires-18
-answered-requires-18 c κs = search needs
+served-requires-18 : tie.Need-served-requires-18
+served-requires-18 c κs = search needs
 
 same-length : tie.Need-same-length
 same-length c = search needs
 
 returns : tie.Need-returns
-returns c = rw (c .before .before .before .before .before .before .e .given .1) (serve _ _ _ _ _ _ (c .answered .ensures) (c .before .before .before .acquire-slow-with-recheck .ensures))
+returns c = rw (c .before .before .before .before .before .before .e .given .1) (serve _ _ _ _ _ _ (c .served .ensures) (c .before .before .before .acquire-slow-with-recheck .ensures))
 
 same-length-2 : tie.Need-same-length-2
 same-length-2 c = search needs
 
 returns-2 : tie.Need-returns-2
-returns-2 c = rw (c .before .before .before .before .before .before .e2 .given .1) (serve _ _ _ _ _ _ (c .answered2 .ensures) (c .before .before .before .complete-acquire .ensures))
+returns-2 c = rw (c .before .before .before .before .before .before .e2 .given .1) (serve _ _ _ _ _ _ (c .served2 .ensures) (c .before .before .before .complete-acquire .ensures))
 
 returns-3 : tie.Need-returns-3
-returns-3 c = rw (c .before .before .before .e3 .given .1) (serve _ _ _ _ _ _ (c .answered3 .ensures) (c .before .release-mutex .ensures _))
+returns-3 c = rw (c .before .before .before .e3 .given .1) (serve _ _ _ _ _ _ (c .served3 .ensures) (c .before .release-mutex .ensures _))
 
 returns-4 : tie.Need-returns-4
-returns-4 c = rw (c .before .before .before .e4 .given .1) (serve _ _ _ _ _ _ (c .answered4 .ensures) (c .before .destroy-mutex .ensures _))
+returns-4 c = rw (c .before .before .before .e4 .given .1) (serve _ _ _ _ _ _ (c .served4 .ensures) (c .before .destroy-mutex .ensures _))
 
 same-length-3 : tie.Need-same-length-3
 same-length-3 c = search needs
 
 returns-5 : tie.Need-returns-5
-returns-5 c = rw (c .before .before .before .before .before .before .e5 .given .1) (serve _ _ _ _ _ _ (c .answered5 .ensures) (c .before .before .before .acquire-read-slow-with-recheck .ensures))
+returns-5 c = rw (c .before .before .before .before .before .before .e5 .given .1) (serve _ _ _ _ _ _ (c .served5 .ensures) (c .before .before .before .acquire-read-slow-with-recheck .ensures))
 
 returns-6 : tie.Need-returns-6
-returns-6 c = rw (c .before .before .before .e6 .given .1) (serve _ _ _ _ _ _ (c .answered6 .ensures) (c .before .complete-read .ensures _))
+returns-6 c = rw (c .before .before .before .e6 .given .1) (serve _ _ _ _ _ _ (c .served6 .ensures) (c .before .complete-read .ensures _))
 
 returns-7 : tie.Need-returns-7
-returns-7 c = rw (c .before .before .before .e7 .given .1) (serve _ _ _ _ _ _ (c .answered7 .ensures) (c .before .try-read-nonblocking .ensures _))
+returns-7 c = rw (c .before .before .before .e7 .given .1) (serve _ _ _ _ _ _ (c .served7 .ensures) (c .before .try-read-nonblocking .ensures _))
 
 returns-8 : tie.Need-returns-8
-returns-8 c = rw (c .before .before .before .e8 .given .1) (serve _ _ _ _ _ _ (c .answered8 .ensures) (c .before .release-read .ensures _))
+returns-8 c = rw (c .before .before .before .e8 .given .1) (serve _ _ _ _ _ _ (c .served8 .ensures) (c .before .release-read .ensures _))
 
 same-length-4 : tie.Need-same-length-4
 same-length-4 c = search needs
 
 returns-9 : tie.Need-returns-9
-returns-9 c = rw (c .before .before .before .before .before .before .e9 .given .1) (serve _ _ _ _ _ _ (c .answered9 .ensures) (c .before .before .before .acquire-write-slow-with-recheck .ensures))
+returns-9 c = rw (c .before .before .before .before .before .before .e9 .given .1) (serve _ _ _ _ _ _ (c .served9 .ensures) (c .before .before .before .acquire-write-slow-with-recheck .ensures))
 
 same-length-5 : tie.Need-same-length-5
 same-length-5 c = search needs
 
 returns-10 : tie.Need-returns-10
-returns-10 c = rw (c .before .before .before .before .before .before .e10 .given .1) (serve _ _ _ _ _ _ (c .answered10 .ensures) (c .before .before .before .complete-write .ensures))
+returns-10 c = rw (c .before .before .before .before .before .before .e10 .given .1) (serve _ _ _ _ _ _ (c .served10 .ensures) (c .before .before .before .complete-write .ensures))
 
 returns-11 : tie.Need-returns-11
-returns-11 c = rw (c .before .before .before .e11 .given .1) (serve _ _ _ _ _ _ (c .answered11 .ensures) (c .before .release-write .ensures _))
+returns-11 c = rw (c .before .before .before .e11 .given .1) (serve _ _ _ _ _ _ (c .served11 .ensures) (c .before .release-write .ensures _))
 
 returns-12 : tie.Need-returns-12
-returns-12 c = rw (c .before .before .before .e12 .given .1) (serve _ _ _ _ _ _ (c .answered12 .ensures) (c .before .destroy-rwlock .ensures _))
+returns-12 c = rw (c .before .before .before .e12 .given .1) (serve _ _ _ _ _ _ (c .served12 .ensures) (c .before .destroy-rwlock .ensures _))
 
 returns-13 : tie.Need-returns-13
-returns-13 c = rw (c .before .before .before .e13 .given .1) (serve _ _ _ _ _ _ (c .answered13 .ensures) (c .before .create-condvar .ensures _))
+returns-13 c = rw (c .before .before .before .e13 .given .1) (serve _ _ _ _ _ _ (c .served13 .ensures) (c .before .create-condvar .ensures _))
 
 returns-14 : tie.Need-returns-14
-returns-14 c = rw (c .before .before .before .e14 .given .1) (serve _ _ _ _ _ _ (c .answered14 .ensures) (c .before .destroy-condvar .ensures _))
+returns-14 c = rw (c .before .before .before .e14 .given .1) (serve _ _ _ _ _ _ (c .served14 .ensures) (c .before .destroy-condvar .ensures _))
 
 returns-15 : tie.Need-returns-15
-returns-15 c = rw (c .before .before .before .e15 .given .1) (serve _ _ _ _ _ _ (c .answered15 .ensures) (c .before .begin-wait .ensures _))
+returns-15 c = rw (c .before .before .before .e15 .given .1) (serve _ _ _ _ _ _ (c .served15 .ensures) (c .before .begin-wait .ensures _))
 
 same-length-6 : tie.Need-same-length-6
 same-length-6 c = search needs
 
 returns-16 : tie.Need-returns-16
-returns-16 c = rw (c .before .before .before .before .before .before .e16 .given .1) (serve _ _ _ _ _ _ (c .answered16 .ensures) (c .before .before .before .notify-one .ensures))
+returns-16 c = rw (c .before .before .before .before .before .before .e16 .given .1) (serve _ _ _ _ _ _ (c .served16 .ensures) (c .before .before .before .notify-one .ensures))
 
 same-length-7 : tie.Need-same-length-7
 same-length-7 c = search needs
 
 returns-17 : tie.Need-returns-17
-returns-17 c = rw (c .before .before .before .before .before .before .e17 .given .1) (serve _ _ _ _ _ _ (c .answered17 .ensures) (c .before .before .before .notify-all .ensures))
+returns-17 c = rw (c .before .before .before .before .before .before .e17 .given .1) (serve _ _ _ _ _ _ (c .served17 .ensures) (c .before .before .before .notify-all .ensures))
 
 returns-18 : tie.Need-returns-18
-returns-18 c = rw (c .before .before .before .e18 .given .1) (serve _ _ _ _ _ _ (c .answered18 .ensures) (c .before .end-wait .ensures _))
+returns-18 c = rw (c .before .before .before .e18 .given .1) (serve _ _ _ _ _ _ (c .served18 .ensures) (c .before .end-wait .ensures _))
 
 pub apply-spec : {M : Type 1} → statement M
 apply-spec =
@@ -303,58 +303,58 @@ apply-spec =
     (tie.spec
     enum-known-e
     acquire-slow-with-recheck-requires
-    answered-requires
+    served-requires
     enum-known-e-2
     complete-acquire-requires
-    answered-requires-2
+    served-requires-2
     enum-known-e-3
     release-mutex-requires
-    answered-requires-3
+    served-requires-3
     enum-known-e-4
     destroy-mutex-requires
-    answered-requires-4
+    served-requires-4
     enum-known-e-5
     acquire-read-slow-with-recheck-requires
-    answered-requires-5
+    served-requires-5
     enum-known-e-6
     complete-read-requires
-    answered-requires-6
+    served-requires-6
     enum-known-e-7
     try-read-nonblocking-requires
-    answered-requires-7
+    served-requires-7
     enum-known-e-8
     release-read-requires
-    answered-requires-8
+    served-requires-8
     enum-known-e-9
     acquire-write-slow-with-recheck-requires
-    answered-requires-9
+    served-requires-9
     enum-known-e-10
     complete-write-requires
-    answered-requires-10
+    served-requires-10
     enum-known-e-11
     release-write-requires
-    answered-requires-11
+    served-requires-11
     enum-known-e-12
     destroy-rwlock-requires
-    answered-requires-12
+    served-requires-12
     enum-known-e-13
     create-condvar-requires
-    answered-requires-13
+    served-requires-13
     enum-known-e-14
     destroy-condvar-requires
-    answered-requires-14
+    served-requires-14
     enum-known-e-15
     begin-wait-requires
-    answered-requires-15
+    served-requires-15
     enum-known-e-16
     notify-one-requires
-    answered-requires-16
+    served-requires-16
     enum-known-e-17
     notify-all-requires
-    answered-requires-17
+    served-requires-17
     enum-known-e-18
     end-wait-requires
-    answered-requires-18
+    served-requires-18
     same-length
     returns
     same-length-2

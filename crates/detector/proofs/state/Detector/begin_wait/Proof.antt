@@ -1,4 +1,4 @@
-use Rattle.detector.proofs.Queues.{silent-does, held, holds-more, waiting-set, waiting-some}
+use Rattle.detector.proofs.Queues.{silent-does, held, holds-more, cv-wait-set, cv-wait-some}
 use Rattle.detector.specs.Condvar.{beginWait}
 use borrow.Author.Needs.{needs}
 use Rattle.detector.proofs.state.Detector.begin_wait.Statement.{statement}
@@ -34,8 +34,8 @@ cast-q-2 c = search needs
 mul-t8-2 : tie.Need-mul-t8-2
 mul-t8-2 c = search needs
 
-element-set-from-rest : tie.Need-element-set-from-rest
-element-set-from-rest c = search needs
+element-set-from-condvars : tie.Need-element-set-from-condvars
+element-set-from-condvars c = search needs
 
 cast-t12 : tie.Need-cast-t12
 cast-t12 c = search needs
@@ -46,8 +46,8 @@ cast-t13-2 c = search needs
 mul-t8-3 : tie.Need-mul-t8-3
 mul-t8-3 c = search needs
 
-element-set-from-rest-2 : tie.Need-element-set-from-rest-2
-element-set-from-rest-2 c = search needs
+element-set-from-condvars-2 : tie.Need-element-set-from-condvars-2
+element-set-from-condvars-2 c = search needs
 
 returns : tie.Need-returns
 unfolding beginWait
@@ -56,7 +56,7 @@ returns c =
     let p = s .pre in
     let v = p .0 in
     let h = holds-more _ _ _ _ (held _ _ v (p .2)) (p .4) (p .1) (p .3) in
-    let u = waiting-set (s .args .self .rest .«thread_wait_cv») (s .args .t) _ (waiting-some _ _ (p .2) (p .3)) (v .waiting) in
+    let u = cv-wait-set (s .args .self .condvars .«thread_wait_cv») (s .args .t) _ (cv-wait-some _ _ (p .2) (p .3)) (v .cvWaits) in
     λ b. silent-does _ _ _ _ _ _ _ v (h .queued) (h .list) u (v .waits) b
 
 pub begin-wait-spec : {M : Type 1} → statement M
@@ -73,9 +73,9 @@ begin-wait-spec =
     add-q
     cast-q-2
     mul-t8-2
-    element-set-from-rest
+    element-set-from-condvars
     cast-t12
     cast-t13-2
     mul-t8-3
-    element-set-from-rest-2
+    element-set-from-condvars-2
     returns)

@@ -1,6 +1,6 @@
-use Rattle.detector.proofs.Promises.{redo, does-told, idle-tells, tells-length}
+use Rattle.detector.proofs.Promises.{redo, does-judges, idle-judges, judges-length}
 use Rattle.detector.specs.Mutex.{acquired, completeAcquire}
-use Rattle.waits.specs.Promises.{Tells}
+use Rattle.waits.specs.Promises.{Judges}
 use Rattle.waits.specs.Attempt.{settle}
 use borrow.Author.Needs.{needs}
 use mathlib.Core.Logic.{⊎-elim}
@@ -9,11 +9,11 @@ use Rattle.detector.proofs.state.Detector.complete_acquire.Tie as tie
 
 -- where the arms meet: nobody waits, or the look has told
 met : (c : tie.Joined1)
-    → Tells (c .if1 .d) (c .before .before .before .before .before .before .before .args .buf .now) (c .if1 .buf) 0 (settle (c .before .before .before .before .before .before .before .args .self .«rwlock_readers») (c .before .before .before .gained .result) (c .before .before .before .before .before .before .before .args .l))
+    → Judges (c .if1 .d) (c .before .before .before .before .before .before .before .args .buf .now) (c .if1 .buf) 0 (settle (c .before .before .before .before .before .before .before .args .self .«rwlock_readers») (c .before .before .before .gained .result) (c .before .before .before .before .before .before .before .args .l))
 met c =
     ⊎-elim
     (λ z. rw (z .7, z .8) (rw (z .1 .ensures) at (z .4 .ensures)))
-    (λ z. rw (z .1, z .2) (idle-tells _ _ _ _ _ (c .before .before .quiet .ensures) (c .before .before .before .gained .ensures .1) (z .0 .left)))
+    (λ z. rw (z .1, z .2) (idle-judges _ _ _ _ _ (c .before .before .quiet .ensures) (c .before .before .before .gained .ensures .1) (z .0 .left)))
     (c .if1 .came)
 
 owned-requires : tie.Need-owned-requires
@@ -31,24 +31,24 @@ mul-if1 c = search needs
 element-copy-out-if1 : tie.Need-element-copy-out-if1
 element-copy-out-if1 c = search needs
 
-readers-requires : tie.Need-readers-requires
-readers-requires c κs = search needs
+counts-requires : tie.Need-counts-requires
+counts-requires c κs = search needs
 
 settle-requires : tie.Need-settle-requires
 settle-requires c κs = search needs
 
-told-requires : tie.Need-told-requires
-told-requires c κs = search needs
+with-judged-requires : tie.Need-with-judged-requires
+with-judged-requires c κs = search needs
 
 same-length : tie.Need-same-length
-same-length c = tells-length (met (c .before))
+same-length c = judges-length (met (c .before))
 
 returns : tie.Need-returns
 unfolding completeAcquire acquired
 returns c =
     let s = c .before .before .before .before .before .before .before .before in
     redo (rw (c .before .before .before .before .gained .ensures .0, c .before .before .before .before .before .owned .ensures .0))
-    (does-told (s .args .self) _ _ _ _ _ (c .told .ensures) (s .pre .0) (met (c .before)))
+    (does-judges (s .args .self) _ _ _ _ _ (c .with-judged .ensures) (s .pre .0) (met (c .before)))
 
 pub complete-acquire-spec : {M : Type 1} → statement M
 complete-acquire-spec =
@@ -59,8 +59,8 @@ complete-acquire-spec =
     quiet-requires
     mul-if1
     element-copy-out-if1
-    readers-requires
+    counts-requires
     settle-requires
-    told-requires
+    with-judged-requires
     same-length
     returns)

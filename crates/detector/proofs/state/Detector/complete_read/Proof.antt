@@ -10,13 +10,13 @@ use Rattle.detector.proofs.state.Detector.complete_read.Tie as tie
 clear-wait-intent-requires : tie.Need-clear-wait-intent-requires
 clear-wait-intent-requires c κs = search needs
 
-readers-requires : tie.Need-readers-requires
-readers-requires c κs = search needs
+counts-requires : tie.Need-counts-requires
+counts-requires c κs = search needs
 
 counted-up-requires : tie.Need-counted-up-requires
 counted-up-requires c κs =
     let s = c .before .before .before in
-    (s .pre .1, s .pre .2, rw (c .readers .ensures) (s .pre .3))
+    (s .pre .1, s .pre .2, rw (c .counts .ensures) (s .pre .3))
 
 with-counts-requires : tie.Need-with-counts-requires
 with-counts-requires c κs = search needs
@@ -27,7 +27,7 @@ returns c =
     let s = c .before .before .before .before .before in
     let e = c .before .before .before .clear-wait-intent .ensures in
     let n = c .before .counted-up .ensures in
-    let r = c .before .before .readers .ensures in
+    let r = c .before .before .counts .ensures in
     λ b.
     redo (ap₂ (λ w k. silent (withCounts (tables (s .args .self)) w k)) (e .0) (n ∙ rw r))
     (does-counts (s .args .self) _ _ _ (c .with-counts .ensures) (s .pre .0) (e .1) b)
@@ -37,7 +37,7 @@ complete-read-spec =
     tie.close
     (tie.spec
     clear-wait-intent-requires
-    readers-requires
+    counts-requires
     counted-up-requires
     with-counts-requires
     returns)

@@ -11,15 +11,15 @@ empty-queue-requires c κs = search needs
 mul-t5 : tie.Need-mul-t5
 mul-t5 c = search needs
 
-element-set-from-rest : tie.Need-element-set-from-rest
-element-set-from-rest c = search needs
+element-set-from-condvars : tie.Need-element-set-from-condvars
+element-set-from-condvars c = search needs
 
 returns : tie.Need-returns
 unfolding createCondvar
 returns c =
     let v = c .before .before .pre .0 in
-    λ b. rw (c .empty-queue .ensures) (silent-does _ _ _ _ _ _ _ v queued-none refl (v .waiting) (v .waits) b)
+    λ b. rw (c .empty-queue .ensures) (silent-does _ _ _ _ _ _ _ v queued-none refl (v .cvWaits) (v .waits) b)
 
 pub create-condvar-spec : {M : Type 1} → statement M
 create-condvar-spec =
-    tie.close (tie.spec empty-queue-requires mul-t5 element-set-from-rest returns)
+    tie.close (tie.spec empty-queue-requires mul-t5 element-set-from-condvars returns)

@@ -7,11 +7,11 @@ use mathlib.Core.Path.{ap₂, _∙_}
 use Rattle.detector.proofs.state.Detector.destroy_rwlock.Statement.{statement}
 use Rattle.detector.proofs.state.Detector.destroy_rwlock.Tie as tie
 
-readers-requires : tie.Need-readers-requires
-readers-requires c κs = search needs
+counts-requires : tie.Need-counts-requires
+counts-requires c κs = search needs
 
-unread-requires : tie.Need-unread-requires
-unread-requires c κs = search needs
+no-readers-requires : tie.Need-no-readers-requires
+no-readers-requires c κs = search needs
 
 written-by-requires : tie.Need-written-by-requires
 written-by-requires c κs = search needs
@@ -27,8 +27,8 @@ unfolding destroyRwLock
 returns c =
     let s = c .before .before .before .before .before .before in
     let e = c .before .purged .ensures in
-    let n = c .before .before .before .before .unread .ensures in
-    let r = c .before .before .before .before .before .readers .ensures in
+    let n = c .before .before .before .before .no-readers .ensures in
+    let r = c .before .before .before .before .before .counts .ensures in
     λ b.
     redo (ap₂ (λ w k. silent (withCounts (tables (s .args .self)) w k)) (e .0 ∙ rw (c .before .before .written-by .ensures .0)) (n ∙ rw r))
     (does-counts (s .args .self) _ _ _ (c .with-counts .ensures) (s .pre .0) (e .1) b)
@@ -37,8 +37,8 @@ pub destroy-rwlock-spec : {M : Type 1} → statement M
 destroy-rwlock-spec =
     tie.close
     (tie.spec
-    readers-requires
-    unread-requires
+    counts-requires
+    no-readers-requires
     written-by-requires
     purged-requires
     with-counts-requires

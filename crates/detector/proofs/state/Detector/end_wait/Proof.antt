@@ -1,4 +1,4 @@
-use Rattle.detector.proofs.Queues.{silent-does, waiting-set, waiting-none}
+use Rattle.detector.proofs.Queues.{silent-does, cv-wait-set, cv-wait-none}
 use Rattle.detector.proofs.Numbers.{queue-at}
 use Rattle.detector.specs.Condvar.{leave, endWait}
 use borrow.Author.Needs.{needs}
@@ -18,14 +18,14 @@ left-by-requires c κs = c .before .before .pre .0 .queues _ (c .before .before 
 mul-t9 : tie.Need-mul-t9
 mul-t9 c = search needs
 
-element-set-from-rest : tie.Need-element-set-from-rest
-element-set-from-rest c = search needs
+element-set-from-condvars : tie.Need-element-set-from-condvars
+element-set-from-condvars c = search needs
 
 mul-t9-2 : tie.Need-mul-t9-2
 mul-t9-2 c = search needs
 
-element-set-from-rest-2 : tie.Need-element-set-from-rest-2
-element-set-from-rest-2 c = search needs
+element-set-from-condvars-2 : tie.Need-element-set-from-condvars-2
+element-set-from-condvars-2 c = search needs
 
 clear-wait-intent-requires : tie.Need-clear-wait-intent-requires
 clear-wait-intent-requires c κs = search needs
@@ -42,7 +42,7 @@ returns c =
     let q = c .before .before .before .left-by .ensures in
     let w = c .before .clear-wait-intent .ensures in
     let f = q .0 ∙ ap (leave (s .args .t) (s .args .l)) (sym (queue-at d (s .args .c))) in
-    let u = waiting-set (d .rest .«thread_wait_cv») (s .args .t) _ waiting-none (v .waiting) in
+    let u = cv-wait-set (d .condvars .«thread_wait_cv») (s .args .t) _ cv-wait-none (v .cvWaits) in
     λ b. rw (← w .0, ← c .without .ensures) (silent-does _ _ _ _ _ _ _ v (q .1) f u (w .1) b)
 
 pub end-wait-spec : {M : Type 1} → statement M
@@ -53,9 +53,9 @@ end-wait-spec =
     element-copy-out-q
     left-by-requires
     mul-t9
-    element-set-from-rest
+    element-set-from-condvars
     mul-t9-2
-    element-set-from-rest-2
+    element-set-from-condvars-2
     clear-wait-intent-requires
     without-requires
     returns)

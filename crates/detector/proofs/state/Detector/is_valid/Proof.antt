@@ -13,8 +13,8 @@ waits-in-range-requires c κs = search needs
 queues-valid-requires : tie.Need-queues-valid-requires
 queues-valid-requires c κs = search needs
 
-waiting-valid-requires : tie.Need-waiting-valid-requires
-waiting-valid-requires c κs = search needs
+cv-waits-valid-requires : tie.Need-cv-waits-valid-requires
+cv-waits-valid-requires c κs = search needs
 
 returns : tie.Need-returns
 unfolding validTest
@@ -22,13 +22,13 @@ returns c =
     let a = sym (c .before .before .before .before .waits-in-range .ensures) ∙ c .before .before .before .if1 .taken in
     let q = c .before .before .queues-valid .ensures in
     let d = c .before .before .before .before .before .before .before .before .before .args .self in
-    let e : c .waiting-valid .result ≡ validTest d = rw (a, sym (q .0) ∙ c .before .if2 .taken) (c .waiting-valid .ensures) in
+    let e : c .cv-waits-valid .result ≡ validTest d = rw (a, sym (q .0) ∙ c .before .if2 .taken) (c .cv-waits-valid .ensures) in
     let i : length (d .waits .«thread_waits_for») ≡ 32 = search (needs, unmapped) in
     let o : length (d .waits .«mutex_owners») ≡ 64 = search (needs, unmapped) in
     let w : length (d .waits .«rwlock_writer») ≡ 64 = search (needs, unmapped) in
-    let v : length (d .rest .«thread_wait_cv») ≡ 32 = search (needs, unmapped) in (
+    let v : length (d .condvars .«thread_wait_cv») ≡ 32 = search (needs, unmapped) in (
       e,
-      λ r. tested-valid d (record { intents = i; owners = o; writers = w; waiting = v; cells = q .1 (c .before .if2 .taken) }) (sym e ∙ r),
+      λ r. tested-valid d (record { intents = i; owners = o; writers = w; cvWaits = v; cells = q .1 (c .before .if2 .taken) }) (sym e ∙ r),
     )
 
 returns-2 : tie.Need-returns-2
@@ -47,7 +47,7 @@ is-valid-spec =
     (tie.spec
     waits-in-range-requires
     queues-valid-requires
-    waiting-valid-requires
+    cv-waits-valid-requires
     returns
     returns-2
     returns-3)

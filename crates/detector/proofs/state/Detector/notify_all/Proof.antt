@@ -18,8 +18,8 @@ empty-queue-requires c κs = search needs
 mul-t11 : tie.Need-mul-t11
 mul-t11 c = search needs
 
-element-set-from-rest : tie.Need-element-set-from-rest
-element-set-from-rest c = search needs
+element-set-from-condvars : tie.Need-element-set-from-condvars
+element-set-from-condvars c = search needs
 
 wake-all-requires : tie.Need-wake-all-requires
 wake-all-requires c κs =
@@ -45,7 +45,7 @@ notify-all-spec =
     element-copy-out-q
     empty-queue-requires
     mul-t11
-    element-set-from-rest
+    element-set-from-condvars
     wake-all-requires
     same-length
     returns)

@@ -22,8 +22,8 @@ popped-requires c κs = let p = c .before .before .before .before .before .befor
 mul-t13 : tie.Need-mul-t13
 mul-t13 c = search needs
 
-element-set-from-rest : tie.Need-element-set-from-rest
-element-set-from-rest c = search needs
+element-set-from-condvars : tie.Need-element-set-from-condvars
+element-set-from-condvars c = search needs
 
 wake-one-requires : tie.Need-wake-one-requires
 wake-one-requires c κs =
@@ -52,7 +52,7 @@ notify-one-spec =
     element-copy-out-p
     popped-requires
     mul-t13
-    element-set-from-rest
+    element-set-from-condvars
     wake-one-requires
     same-length
     returns-2)

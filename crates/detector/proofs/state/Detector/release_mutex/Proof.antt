@@ -3,7 +3,7 @@ use Rattle.detector.proofs.Ranges.{range-released}
 use Rattle.detector.specs.State.{tables}
 use Rattle.detector.specs.Tables.{withWaits, silent}
 use Rattle.detector.specs.Mutex.{released, releaseMutex}
-use Rattle.waits.proofs.Telling.{refresh-idle, refresh-graph}
+use Rattle.waits.proofs.Judging.{refresh-idle, refresh-graph}
 use Rattle.waits.proofs.Laws.{range-refresh}
 use Rattle.waits.specs.Waiting.{refresh}
 use Rattle.waits.specs.Tables.{InRange, holdsOf, withHolds}
@@ -71,8 +71,8 @@ mul-if2 c = search needs
 element-copy-out-if2 : tie.Need-element-copy-out-if2
 element-copy-out-if2 c = search needs
 
-readers-requires : tie.Need-readers-requires
-readers-requires c κs = search needs
+counts-requires : tie.Need-counts-requires
+counts-requires c κs = search needs
 
 refresh-waiters-for-lock-requires : tie.Need-refresh-waiters-for-lock-requires
 refresh-waiters-for-lock-requires c κs =
@@ -106,7 +106,7 @@ release-mutex-spec =
     element-write-w-2
     mul-if2
     element-copy-out-if2
-    readers-requires
+    counts-requires
     refresh-waiters-for-lock-requires
     with-waits-requires
     returns)

@@ -21,7 +21,7 @@ use Rattle.detector.proofs.state.Detector.release_read.Tie as tie
 less : (c : tie.Joined1) → c .before .before .before .counted-down .result ≡ countDown (c .before .before .before .before .before .args .self .«rwlock_readers») (c .before .before .before .before .before .args .l) (c .before .before .before .before .before .args .t)
 less c =
     let a = c .before .before .before .before .before .args in
-    c .before .before .before .counted-down .ensures ∙ ap (λ k. countDown k (a .l) (a .t)) (c .before .before .before .before .readers .ensures)
+    c .before .before .before .counted-down .ensures ∙ ap (λ k. countDown k (a .l) (a .t)) (c .before .before .before .before .counts .ensures)
 
 fallen : (c : tie.Joined1)
     → getD (c .before .before .before .counted-down .result) (c .before .place .result) 0
@@ -49,8 +49,8 @@ ranged c =
     let s = c .before .before .before .before .before .pre .0 .waits in
     ⊎-elim (λ z. subst (λ (w : Waits). InRange w) (sym (z .2 ∙ z .1 .ensures)) (range-loosen _ _ _ s)) (λ z. rw (z .1) s) (c .if1 .came)
 
-readers-requires : tie.Need-readers-requires
-readers-requires c κs = search needs
+counts-requires : tie.Need-counts-requires
+counts-requires c κs = search needs
 
 counted-down-requires : tie.Need-counted-down-requires
 counted-down-requires c κs = search needs
@@ -80,7 +80,7 @@ pub release-read-spec : {M : Type 1} → statement M
 release-read-spec =
     tie.close
     (tie.spec
-    readers-requires
+    counts-requires
     counted-down-requires
     place-requires
     array-read-if1

@@ -1,5 +1,5 @@
 use Rattle.detector.proofs.Promises.{redo, does-waits, does-counts, not-full}
-use Rattle.waits.proofs.Telling.{refresh-graph}
+use Rattle.waits.proofs.Judging.{refresh-graph}
 use Rattle.waits.proofs.Laws.{range-refresh}
 use Rattle.waits.specs.Tables.{InRange}
 use Rattle.waits.specs.declared.tables.Waits.{Waits}
@@ -25,14 +25,14 @@ returns c =
     let s = c .before .before .before .before in
     λ b. rw (c .before .enum-told2 .given .1) (does-waits (s .args .self) _ _ (c .with-waits .ensures) (s .pre .0) (s .pre .0 .waits) b)
 
-readers-requires : tie.Need-readers-requires
-readers-requires c κs = search needs
+counts-requires : tie.Need-counts-requires
+counts-requires c κs = search needs
 
 counted-up-requires : tie.Need-counted-up-requires
 counted-up-requires c κs =
     let s = c .before .before .before .before in
     let x = tables (s .args .self) in
-    (s .pre .1, s .pre .2, rw (c .readers .ensures) (not-full x (s .args .t) (s .args .l) (rw (c .before .enum-told .given .1) at (s .pre .3))))
+    (s .pre .1, s .pre .2, rw (c .counts .ensures) (not-full x (s .args .t) (s .args .l) (rw (c .before .enum-told .given .1) at (s .pre .3))))
 
 refresh-waiters-for-lock-requires : tie.Need-refresh-waiters-for-lock-requires
 refresh-waiters-for-lock-requires c κs = search needs
@@ -46,7 +46,7 @@ returns-2 c =
     let s = c .before .before .before .before .before .before .before .before .before in
     let g = refresh-graph _ (s .args .self .waits) (s .args .l) _ (c .before .before .refresh-waiters-for-lock .ensures) in
     let n = c .before .before .before .before .counted-up .ensures in
-    let r = c .before .before .before .before .before .readers .ensures in
+    let r = c .before .before .before .before .before .counts .ensures in
     λ b.
     rw (c .before .before .before .before .before .before .enum-told .given .1)
     (redo (ap₂ (λ w k. silent (withCounts (tables (s .args .self)) w k)) (g ∙ rw (n, r)) (n ∙ rw r))
@@ -60,7 +60,7 @@ try-read-nonblocking-spec =
     enum-told-2
     with-waits-requires
     returns
-    readers-requires
+    counts-requires
     counted-up-requires
     refresh-waiters-for-lock-requires
     with-counts-requires

@@ -35,7 +35,7 @@ unfolding addEdge
 returns-2 c =
     let f = c .before .before .find-path .ensures in
     let i = c .before .before .before in
-    rw (sym (i .before .has .ensures) ∙ i .if1 .left, f) (sym (closes _ _ _ _ (ap (λ s. s .answer) (sym f) ∙ c .enum-told2 .given .1)))
+    rw (sym (i .before .has .ensures) ∙ i .if1 .left, f) (sym (closes _ _ _ _ (ap (λ s. s .way) (sym f) ∙ c .enum-told2 .given .1)))
 
 stored-requires : tie.Need-stored-requires
 stored-requires c κs = search needs
@@ -47,7 +47,7 @@ returns-3 c =
     let f = m .before .before .find-path .ensures in
     let i = m .before .before .before in
     rw (sym (i .before .has .ensures) ∙ i .if1 .left, f, c .stored .ensures)
-    (sym (stores _ _ _ _ (ap (λ s. s .answer) (sym f) ∙ m .enum-told .given .1)))
+    (sym (stores _ _ _ _ (ap (λ s. s .way) (sym f) ∙ m .enum-told .given .1)))
 
 pub add-edge-spec : {M : Type 1} → statement M
 add-edge-spec =

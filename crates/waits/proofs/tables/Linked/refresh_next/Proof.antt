@@ -1,4 +1,4 @@
-use Rattle.waits.proofs.Telling.{refresh-linked}
+use Rattle.waits.proofs.Judging.{refresh-linked}
 use Rattle.waits.proofs.Laws.{range-refresh}
 use Rattle.waits.specs.Tables.{InRange}
 use Rattle.waits.specs.declared.tables.Linked.{Linked}

@@ -1,4 +1,4 @@
-use Rattle.waits.proofs.Telling.{retell, hush-tells, attempt-told, attempt-for, attempt-free}
+use Rattle.waits.proofs.Judging.{retell, hush-judges, attempt-linked, attempt-for, attempt-free}
 use Rattle.waits.proofs.Laws.{fits-register}
 use borrow.Author.Needs.{needs}
 use mathlib.Core.Path.{sym, _∙_}
@@ -19,7 +19,7 @@ returns c =
     let s = c .before .before .before .before in
     let a = s .args in
     retell (attempt-free _ (a .self) (a .t) (a .l) (a .mode) (sym (c .before .before .is-free-for .ensures) ∙ c .before .if1 .taken))
-    (hush-tells _ _ _ _ (c .quiet .ensures) (s .pre .0))
+    (hush-judges _ _ _ _ (c .quiet .ensures) (s .pre .0))
 
 register-wait-requires : tie.Need-register-wait-requires
 register-wait-requires c κs = search needs
@@ -37,8 +37,8 @@ returns-2 : tie.Need-returns-2
 returns-2 c =
     let r = c .before .before .before .before .before .before in
     let a = r .before .before .before .before .args in
-    retell (attempt-told _ (a .self) (a .t) _ _ (r .register-wait .ensures .0) (sym (r .before .before .is-free-for .ensures) ∙ r .before .if1 .left) ∙ attempt-for _ (a .self) (a .t) (a .l) (a .mode))
-    (rw (c .before .enum-told2 .given .1) (hush-tells _ _ _ _ (c .quiet2 .ensures) (r .register-wait .ensures .1)))
+    retell (attempt-linked _ (a .self) (a .t) _ _ (r .register-wait .ensures .0) (sym (r .before .before .is-free-for .ensures) ∙ r .before .if1 .left) ∙ attempt-for _ (a .self) (a .t) (a .l) (a .mode))
+    (rw (c .before .enum-told2 .given .1) (hush-judges _ _ _ _ (c .quiet2 .ensures) (r .register-wait .ensures .1)))
 
 passes-for-requires : tie.Need-passes-for-requires
 passes-for-requires c κs = rw (c .before .before .before .before .before .register-wait .ensures .0) (fits-register _ _ _ _)
@@ -56,7 +56,7 @@ returns-3 c =
     let r = c .before .before .before .before .before .before .before .before .before .before .before in
     let a = r .before .before .before .before .args in
     let f = c .before .before .before .before .before in
-    retell (attempt-told _ (a .self) (a .t) _ _ (r .register-wait .ensures .0) (sym (r .before .before .is-free-for .ensures) ∙ r .before .if1 .left) ∙ attempt-for _ (a .self) (a .t) (a .l) (a .mode))
+    retell (attempt-linked _ (a .self) (a .t) _ _ (r .register-wait .ensures .0) (sym (r .before .before .is-free-for .ensures) ∙ r .before .if1 .left) ∙ attempt-for _ (a .self) (a .t) (a .l) (a .mode))
     (rw (f .before .enum-told .given .1, sym (f .passes-for .ensures) ∙ c .before .before .before .before .if2 .taken) (c .before .before .validated-deadlock-info .ensures))
 
 quiet-requires-3 : tie.Need-quiet-requires-3
@@ -67,8 +67,8 @@ returns-4 c =
     let r = c .before .before .before .before .before .before .before .before in
     let a = r .before .before .before .before .args in
     let f = c .before .before in
-    retell (attempt-told _ (a .self) (a .t) _ _ (r .register-wait .ensures .0) (sym (r .before .before .is-free-for .ensures) ∙ r .before .if1 .left) ∙ attempt-for _ (a .self) (a .t) (a .l) (a .mode))
-    (rw (f .before .enum-told .given .1, sym (f .passes-for .ensures) ∙ c .before .if2 .left) (hush-tells _ _ _ _ (c .quiet3 .ensures) (r .register-wait .ensures .1)))
+    retell (attempt-linked _ (a .self) (a .t) _ _ (r .register-wait .ensures .0) (sym (r .before .before .is-free-for .ensures) ∙ r .before .if1 .left) ∙ attempt-for _ (a .self) (a .t) (a .l) (a .mode))
+    (rw (f .before .enum-told .given .1, sym (f .passes-for .ensures) ∙ c .before .if2 .left) (hush-judges _ _ _ _ (c .quiet3 .ensures) (r .register-wait .ensures .1)))
 
 pub attempt-spec : {M : Type 1} → statement M
 attempt-spec =

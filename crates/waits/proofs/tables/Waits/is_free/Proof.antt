@@ -1,4 +1,4 @@
-use Rattle.waits.proofs.Masks.{unread-zero, unread-some}
+use Rattle.waits.proofs.Masks.{nobody-zero, nobody-some}
 use borrow.Author.Needs.{needs}
 use native.Mathlib.Omega.{arith}
 use Rattle.waits.proofs.tables.Waits.is_free.Statement.{statement}
@@ -11,10 +11,10 @@ array-read-result : tie.Need-array-read-result
 array-read-result c = search needs
 
 returns : tie.Need-returns
-returns c = rw (unread-zero _ _ _ (c .before .before .reader-mask .ensures) (c .before .if1 .taken))
+returns c = rw (nobody-zero _ _ _ (c .before .before .reader-mask .ensures) (c .before .if1 .taken))
 
 returns-2 : tie.Need-returns-2
-returns-2 c = rw (unread-some _ _ _ (c .before .reader-mask .ensures) (omega arith) (search needs))
+returns-2 c = rw (nobody-some _ _ _ (c .before .reader-mask .ensures) (omega arith) (search needs))
 
 pub is-free-spec : {M : Type 1} → statement M
 is-free-spec = tie.close (tie.spec reader-mask-requires array-read-result returns returns-2)

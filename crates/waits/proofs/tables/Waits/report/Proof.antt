@@ -1,4 +1,4 @@
-use Rattle.waits.proofs.Telling.{say-tells}
+use Rattle.waits.proofs.Judging.{report-judges}
 use borrow.Author.Needs.{needs}
 use Rattle.waits.proofs.tables.Waits.report.Statement.{statement}
 use Rattle.waits.proofs.tables.Waits.report.Tie as tie
@@ -12,7 +12,7 @@ same-length c = search needs
 returns : tie.Need-returns
 returns c =
     let s = c .before .before .before .before .before in
-    say-tells _ _ _ _ _ _ (s .pre .0) (s .pre .1) (c .before .before .write-report .ensures .0) (c .before .before .write-report .ensures .1)
+    report-judges _ _ _ _ _ _ (s .pre .0) (s .pre .1) (c .before .before .write-report .ensures .0) (c .before .before .write-report .ensures .1)
 
 pub report-spec : {M : Type 1} → statement M
 report-spec = tie.close (tie.spec write-report-requires same-length returns)

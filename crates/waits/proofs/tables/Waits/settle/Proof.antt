@@ -1,4 +1,4 @@
-use Rattle.waits.proofs.Telling.{retell, settle-told, refresh-graph}
+use Rattle.waits.proofs.Judging.{retell, settle-added, refresh-graph}
 use Rattle.waits.proofs.Laws.{range-refresh, fits-refreshed}
 use Rattle.waits.specs.Tables.{InRange}
 use Rattle.waits.specs.declared.tables.Waits.{Waits}
@@ -10,8 +10,8 @@ use Rattle.waits.proofs.tables.Waits.settle.Tie as tie
 refresh-waiters-for-lock-requires : tie.Need-refresh-waiters-for-lock-requires
 refresh-waiters-for-lock-requires c κs = search needs
 
-judged-requires : tie.Need-judged-requires
-judged-requires c κs =
+judge-requires : tie.Need-judge-requires
+judge-requires c κs =
     let s = c .before .before .before .before .before in
     let a = s .args in
     let k = c .before .before .before .refresh-waiters-for-lock .ensures in (
@@ -26,8 +26,8 @@ same-length c = search needs
 returns : tie.Need-returns
 returns c =
     let a = c .before .before .before .before .before .before .before .before .args in
-    retell (settle-told _ (a .self) (a .l) _ (c .before .before .before .before .before .before .refresh-waiters-for-lock .ensures)) (c .before .before .judged .ensures)
+    retell (settle-added _ (a .self) (a .l) _ (c .before .before .before .before .before .before .refresh-waiters-for-lock .ensures)) (c .before .before .judge .ensures)
 
 pub settle-spec : {M : Type 1} → statement M
 settle-spec =
-    tie.close (tie.spec refresh-waiters-for-lock-requires judged-requires same-length returns)
+    tie.close (tie.spec refresh-waiters-for-lock-requires judge-requires same-length returns)

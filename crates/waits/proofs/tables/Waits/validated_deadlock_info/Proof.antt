@@ -1,4 +1,4 @@
-use Rattle.waits.proofs.Telling.{retell, first-say, second-say, second-quiet, quiet-tells}
+use Rattle.waits.proofs.Judging.{retell, first-reports, second-reports, second-quiet, quiet-judges}
 use Rattle.waits.proofs.Masks.{awaited-locks}
 use Rattle.waits.proofs.Laws.{fits-locks}
 use borrow.Author.Needs.{needs}
@@ -17,7 +17,7 @@ same-length c = search needs
 
 returns : tie.Need-returns
 returns c =
-    retell (first-say _ _ _ (sym (c .before .before .before .before .before .validate-wait-cycle .ensures) ∙ c .before .before .before .before .if1 .taken))
+    retell (first-reports _ _ _ (sym (c .before .before .before .before .before .validate-wait-cycle .ensures) ∙ c .before .before .before .before .if1 .taken))
     (c .before .before .report .ensures)
 
 awaited-requires : tie.Need-awaited-requires
@@ -45,7 +45,7 @@ returns-2 c =
     let a = r .before .awaited .ensures in
     let v = r .before .before .before .validate-wait-cycle .ensures in
     retell
-    (second-say _ _ _ (sym v ∙ r .before .before .if1 .left) _ (r .refresh-all .ensures .0 ∙ rw (a, awaited-locks))
+    (second-reports _ _ _ (sym v ∙ r .before .before .if1 .left) _ (r .refresh-all .ensures .0 ∙ rw (a, awaited-locks))
     (sym (c .before .before .before .before .before .validate-wait-cycle2 .ensures) ∙ c .before .before .before .before .if2 .taken))
     (c .before .before .report2 .ensures)
 
@@ -57,7 +57,7 @@ returns-3 c =
     retell
     (second-quiet _ _ _ (sym v ∙ r .before .before .if1 .left) _ (r .refresh-all .ensures .0 ∙ rw (a, awaited-locks))
     (sym (c .before .validate-wait-cycle2 .ensures) ∙ c .if2 .left))
-    (quiet-tells _ _ _ (r .refresh-all .ensures .1))
+    (quiet-judges _ _ _ (r .refresh-all .ensures .1))
 
 pub validated-deadlock-info-spec : {M : Type 1} → statement M
 validated-deadlock-info-spec =

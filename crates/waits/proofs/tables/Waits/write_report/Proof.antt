@@ -1,4 +1,4 @@
-use Rattle.waits.proofs.Telling.{told-by, entry-step, entry-end, report-head}
+use Rattle.waits.proofs.Judging.{entered-by, entry-step, entry-end, report-head}
 use Rattle.waits.specs.Promises.{laid}
 use Rattle.waits.specs.Report.{entryBytes}
 use Rattle.graph.specs.Code.{listOf}
@@ -15,7 +15,7 @@ Inv-loop buf₀ from self cycle n at₀ i₀ buf at i =
     (i ≤ n)
     × (at ≡ from + 1 + entryBytes * i)
     × (length buf ≡ length buf₀)
-    × (laid buf at (told-by self (drop i (listOf cycle))) ≡ laid buf₀ (from + 1) (told-by self (listOf cycle)))
+    × (laid buf at (entered-by self (drop i (listOf cycle))) ≡ laid buf₀ (from + 1) (entered-by self (listOf cycle)))
 
 abbrev μ-loop : tie.MeasureT-loop
 μ-loop buf₀ from self cycle n at₀ i₀ buf at i = n - i

@@ -1,0 +1,104 @@
+// The entry at one place of a table: an item, or none.
+use crate::item::put_three;
+use crate::item::put_two;
+use crate::item::put_word;
+use detector::CvWait;
+use detector::Pair;
+use text::wide;
+use waits::Awaits;
+use waits::Slot;
+use waits::WaitMode;
+ghost use mathlib.Core.Path.{_≡_};
+ghost use mathlib.Core.List.{[], _∷_};
+ghost use Rattle.listing.specs.Listing.{ownerItem, readerItem, pairItem, cvWaitItem, intentItem};
+ghost use Rattle.listing.specs.Promises.{Roomy, Lists};
+
+pub(crate) fn put_owner(
+    out: &mut [u8],
+    start: usize,
+    at: usize,
+    name: &[u8],
+    l: usize,
+    o: u8,
+) -> usize
+    requires { ⌜ Roomy start (now name) (ownerItem l o) (now out) at ⌝ }
+    ensures { λ r. ⌜ Lists start (now (name .entry)) (ownerItem l o) (now (out .entry)) at (now (out .exit)) r ⌝ }
+{
+    if o < 32 {
+        return put_two(out, start, at, name, l, b':', wide(o));
+    }
+    at
+}
+
+pub(crate) fn put_reader(
+    out: &mut [u8],
+    start: usize,
+    at: usize,
+    name: &[u8],
+    l: usize,
+    t: usize,
+    n: u8,
+) -> usize
+    requires { ⌜ Roomy start (now name) (readerItem l t n) (now out) at ⌝ }
+    ensures { λ r. ⌜ Lists start (now (name .entry)) (readerItem l t n) (now (out .entry)) at (now (out .exit)) r ⌝ }
+{
+    if n == 0 {
+        return at;
+    }
+    put_three(out, start, at, name, l, t, wide(n))
+}
+
+pub(crate) fn put_pair(
+    out: &mut [u8],
+    start: usize,
+    at: usize,
+    name: &[u8],
+    c: usize,
+    p: Pair,
+) -> usize
+    requires { ⌜ Roomy start (now name) (pairItem c p ∷ []) (now out) at ⌝ }
+    ensures { λ r. ⌜ Lists start (now (name .entry)) (pairItem c p ∷ []) (now (out .entry)) at (now (out .exit)) r ⌝ }
+{
+    put_three(out, start, at, name, c, wide(p.thread), wide(p.lock))
+}
+
+pub(crate) fn put_cv_wait(
+    out: &mut [u8],
+    start: usize,
+    at: usize,
+    name: &[u8],
+    t: usize,
+    v: CvWait,
+) -> usize
+    requires { ⌜ Roomy start (now name) (cvWaitItem t v) (now out) at ⌝ }
+    ensures { λ r. ⌜ Lists start (now (name .entry)) (cvWaitItem t v) (now (out .entry)) at (now (out .exit)) r ⌝ }
+{
+    if v.condvar == 16 {
+        return at;
+    }
+    put_three(out, start, at, name, t, wide(v.condvar), wide(v.lock))
+}
+
+pub(crate) fn put_intent(
+    out: &mut [u8],
+    start: usize,
+    at: usize,
+    name: &[u8],
+    t: usize,
+    s: Slot,
+) -> usize
+    requires { ⌜ Roomy start (now name) (intentItem t (s .awaits)) (now out) at ⌝ }
+    ensures { λ r. ⌜ Lists start (now (name .entry)) (intentItem t (s .awaits)) (now (out .entry)) at (now (out .exit)) r ⌝ }
+{
+    let awaits = s.awaits;
+    let Awaits::For(i) = awaits else {
+        return at;
+    };
+    let l = wide(i.lock_id);
+    let mode = i.mode;
+    match mode {
+        WaitMode::Mutex => put_word(out, start, at, name, t, b"Mutex", l),
+        WaitMode::RwRead => put_word(out, start, at, name, t, b"RwRead", l),
+        WaitMode::RwWrite => put_word(out, start, at, name, t, b"RwWrite", l),
+    }
+}
