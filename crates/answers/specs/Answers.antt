@@ -2,6 +2,8 @@
 -- thread:lock items. Last: `end`, lines (refused ones too), edges stored, stuck threads; tabs between all fields."
 use Prim.Native.Nat.{ℕ, _+_, _*_}
 use mathlib.Core.List.{List, [], _∷_, _++_, map}
+use Rattle.sets.specs.Limits.{THREADS}
+use Rattle.detector.specs.Limits.{PLACES}
 use Rattle.text.specs.Bytes.{text}
 use Rattle.text.specs.Decimal.{decimal, tabbed, line}
 use Rattle.answers.specs.Reports.{reportsIn}
@@ -50,7 +52,7 @@ abbrev pub itemBytes : ℕ
 itemBytes = 8
 
 abbrev pub answerBytes : ℕ
-answerBytes = 45 + 32 * (6 + 32 * itemBytes)
+answerBytes = 45 + PLACES * (6 + THREADS * itemBytes)
 
 abbrev pub endBytes : ℕ
 endBytes = 67

@@ -1,5 +1,7 @@
 // What is printed for a line of the script, and the last line.
 use crate::cycle::put_cycles;
+use detector::Detector;
+use detector::Queue;
 use detector::Reply;
 use text::put_byte;
 use text::put_bytes;
@@ -14,7 +16,7 @@ ghost use Rattle.answers.specs.Promises.{Held};
 // Room for an item and its tab; for the longest answer to one line, with 32 reports of 32 entries; and for the last line.
 const ITEM_BYTES: usize = 8;
 
-pub const ANSWER_BYTES: usize = 45 + 32 * (6 + 32 * ITEM_BYTES);
+pub const ANSWER_BYTES: usize = 45 + Queue::PLACES * (6 + Detector::THREADS * ITEM_BYTES);
 
 pub const END_BYTES: usize = 67;
 

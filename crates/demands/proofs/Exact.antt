@@ -200,12 +200,12 @@ decides-none c w h = (λ r. absurd (omega arith), λ z. absurd (no-cycle (True c
 
 -- ---- the filter
 
-held-all : (w : Waits) (l : ℕ) (p : List ℕ) → allHold w l p ≡ true → (t : ℕ) → In t p → has (holdsOf w t) l ≡ true
+held-all : (w : Waits) (l : ℕ) (p : List ℕ) → allHold w p l ≡ true → (t : ℕ) → In t p → has (holdsOf w t) l ≡ true
 unfolding allHold
-held-all w l (s ∷ p) e t (inl q) = ap (λ (z : ℕ). has (holdsOf w z) l) q ∙ both (has (holdsOf w s) l) (allHold w l p) e .0
-held-all w l (s ∷ p) e t (inr m) = held-all w l p (both (has (holdsOf w s) l) (allHold w l p) e .1) t m
+held-all w l (s ∷ p) e t (inl q) = ap (λ (z : ℕ). has (holdsOf w z) l) q ∙ both (has (holdsOf w s) l) (allHold w p l) e .0
+held-all w l (s ∷ p) e t (inr m) = held-all w l p (both (has (holdsOf w s) l) (allHold w p l) e .1) t m
 
-all-held : (w : Waits) (l : ℕ) (p : List ℕ) → ((t : ℕ) → In t p → has (holdsOf w t) l ≡ true) → allHold w l p ≡ true
+all-held : (w : Waits) (l : ℕ) (p : List ℕ) → ((t : ℕ) → In t p → has (holdsOf w t) l ≡ true) → allHold w p l ≡ true
 unfolding allHold
 all-held w l [] h = refl
 all-held w l (s ∷ p) h = rw (h s (inl refl)) (all-held w l p (λ t m. h t (inr m)))
@@ -218,32 +218,32 @@ something : (l : List ℕ) → nothing l ≡ false → (y : ℕ) × In y l
 something [] e = absurd (true≢false e)
 something (z ∷ l) e = (z, inl refl)
 
-nobody-zero : (c : List ℕ) (l : ℕ) → nobodyReads c l ≡ true → (t : ℕ) → t < 32 → countOf c l t ≡ 0
+nobody-zero : (c : List ℕ) (l : ℕ) → nobodyReads c l ≡ true → (t : ℕ) → t < 32 → countOf c t l ≡ 0
 unfolding readers
-nobody-zero c l e t h = go (eqb (countOf c l t) 0) refl
+nobody-zero c l e t h = go (eqb (countOf c t l) 0) refl
   where
-    go : (b : Bool) → eqb (countOf c l t) 0 ≡ b → countOf c l t ≡ 0
+    go : (b : Bool) → eqb (countOf c t l) 0 ≡ b → countOf c t l ≡ 0
     go true q = eqb-true _ _ q
-    go false q = absurd (nothing-none (those (reads c l) 32) e t (in-those (reads c l) 32 t h (ap not q)))
+    go false q = absurd (nothing-none (those (λ t. reads c t l) 32) e t (in-those (λ t. reads c t l) 32 t h (ap not q)))
 
-zero-nobody : (c : List ℕ) (l : ℕ) → ((t : ℕ) → t < 32 → countOf c l t ≡ 0) → nobodyReads c l ≡ true
+zero-nobody : (c : List ℕ) (l : ℕ) → ((t : ℕ) → t < 32 → countOf c t l ≡ 0) → nobodyReads c l ≡ true
 unfolding readers
 zero-nobody c l h =
-    in-nothing (those (reads c l) 32) (λ t m. let q = those-in (reads c l) 32 t m in false≢true (sym (ap not (eq-eqb (countOf c l t) 0 (h t (q .0)))) ∙ q .1))
+    in-nothing (those (λ t. reads c t l) 32) (λ t m. let q = those-in (λ t. reads c t l) 32 t m in false≢true (sym (ap not (eq-eqb (countOf c t l) 0 (h t (q .0)))) ∙ q .1))
 
 shared-of : (c : List ℕ) (w : Waits) (p : List ℕ) → passes c w p ≡ false → Shared c w p
 unfolding commonLocks
 shared-of c w p e =
-    let s = something (those (λ l. cond (allHold w l p) (nobodyReads c l) false) 64) e in
-    let q = those-in (λ l. cond (allHold w l p) (nobodyReads c l) false) 64 (s .0) (s .1) in
-    let b = both (allHold w (s .0) p) (nobodyReads c (s .0)) (q .1) in
+    let s = something (those (λ l. cond (allHold w p l) (nobodyReads c l) false) 64) e in
+    let q = those-in (λ l. cond (allHold w p l) (nobodyReads c l) false) 64 (s .0) (s .1) in
+    let b = both (allHold w p (s .0)) (nobodyReads c (s .0)) (q .1) in
     record { lock = s .0; inside = q .0; held = held-all w (s .0) p (b .0); nobodyReads = nobody-zero c (s .0) (b .1) }
 
 of-shared : (c : List ℕ) (w : Waits) (p : List ℕ) → passes c w p ≡ true → Shared c w p → ⊥
 unfolding commonLocks
 of-shared c w p e k =
-    nothing-none (those (λ l. cond (allHold w l p) (nobodyReads c l) false) 64) e (k .lock)
-    (in-those (λ l. cond (allHold w l p) (nobodyReads c l) false) 64 (k .lock) (k .inside)
+    nothing-none (those (λ l. cond (allHold w p l) (nobodyReads c l) false) 64) e (k .lock)
+    (in-those (λ l. cond (allHold w p l) (nobodyReads c l) false) 64 (k .lock) (k .inside)
     (ap (λ (b : Bool). cond b (nobodyReads c (k .lock)) false) (all-held w (k .lock) p (k .held)) ∙ zero-nobody c (k .lock) (k .nobodyReads)))
 
 -- reported exactly where they hold a cycle and the path found is not of threads with a lock in common
@@ -331,23 +331,23 @@ module _ (x : Tables) (k : Kept x) (exact : Exact x) (t l : ℕ) where
       let e = exact-all x k exact a b in
       (λ z. s a b d ∙ e .0 (subst (λ (h : WaitForGraph). Edge (h .edges) a b) g z), λ z. subst (λ (h : WaitForGraph). Edge (h .edges) a b) (sym g) (e .1 (sym (s a b d) ∙ z)))
 
-  exact-own : (o : ℕ) → (o ≡ ownerOf (x .waits) l) ⊎ Alone x t l → ExactBut (x .«rwlock_readers») (own (x .waits) l o) t
+  exact-own : (o : ℕ) → (o ≡ ownerOf (x .waits) l) ⊎ Alone x t l → ExactBut (x .«rwlock_readers») (own (x .waits) o l) t
   exact-own o (inl e) =
       let s : set (x .waits .«mutex_owners») l o ≡ x .waits .«mutex_owners» = ap (set (x .waits .«mutex_owners») l) e ∙ set-getD (x .waits .«mutex_owners») l 0 in
-      exact-hint (own (x .waits) l o) refl (λ a b d. waits-same (x .«rwlock_readers») (own (x .waits) l o) (x .waits) refl s refl a b)
+      exact-hint (own (x .waits) o l) refl (λ a b d. waits-same (x .«rwlock_readers») (own (x .waits) o l) (x .waits) refl s refl a b)
   exact-own o (inr n) =
-      exact-hint (own (x .waits) l o) refl
-      (but-hint (x .«rwlock_readers») (own (x .waits) l o) (x .waits) t l refl
-      (λ i d. owners-same (x .«rwlock_readers») (own (x .waits) l o) (x .waits) i (getD-set-other (x .waits .«mutex_owners») l (i .«lock_id») o 0 d) refl) n)
+      exact-hint (own (x .waits) o l) refl
+      (but-hint (x .«rwlock_readers») (own (x .waits) o l) (x .waits) t l refl
+      (λ i d. owners-same (x .«rwlock_readers») (own (x .waits) o l) (x .waits) i (getD-set-other (x .waits .«mutex_owners») l (i .«lock_id») o 0 d) refl) n)
 
-  exact-write : (o : ℕ) → (o ≡ writerOf (x .waits) l) ⊎ Alone x t l → ExactBut (x .«rwlock_readers») (write (x .waits) l o) t
+  exact-write : (o : ℕ) → (o ≡ writerOf (x .waits) l) ⊎ Alone x t l → ExactBut (x .«rwlock_readers») (write (x .waits) o l) t
   exact-write o (inl e) =
       let s : set (x .waits .«rwlock_writer») l o ≡ x .waits .«rwlock_writer» = ap (set (x .waits .«rwlock_writer») l) e ∙ set-getD (x .waits .«rwlock_writer») l 0 in
-      exact-hint (write (x .waits) l o) refl (λ a b d. waits-same (x .«rwlock_readers») (write (x .waits) l o) (x .waits) refl refl s a b)
+      exact-hint (write (x .waits) o l) refl (λ a b d. waits-same (x .«rwlock_readers») (write (x .waits) o l) (x .waits) refl refl s a b)
   exact-write o (inr n) =
-      exact-hint (write (x .waits) l o) refl
-      (but-hint (x .«rwlock_readers») (write (x .waits) l o) (x .waits) t l refl
-      (λ i d. owners-same (x .«rwlock_readers») (write (x .waits) l o) (x .waits) i refl (getD-set-other (x .waits .«rwlock_writer») l (i .«lock_id») o 0 d)) n)
+      exact-hint (write (x .waits) o l) refl
+      (but-hint (x .«rwlock_readers») (write (x .waits) o l) (x .waits) t l refl
+      (λ i d. owners-same (x .«rwlock_readers») (write (x .waits) o l) (x .waits) i refl (getD-set-other (x .waits .«rwlock_writer») l (i .«lock_id») o 0 d)) n)
 
 -- ---- demand 3, second half
 
@@ -366,7 +366,7 @@ module _ (x : Tables) (room t l : ℕ) (k : Kept x) (exact : Exact x) where
   unfolding acquireSlow
   half-mutex Took n a = absurd a
   half-mutex Blocked n a = mutex-decided (x .waits) (n .thread) (n .lock) (k .waits) (exact-plain x k exact t l)
-  half-mutex (Hinted o) n a = mutex-decided (own (x .waits) l o) (n .thread) (n .lock) (fine-own (x .waits) l o (omega (arith, n .hint)) (k .waits)) (exact-own x k exact t l o a)
+  half-mutex (Hinted o) n a = mutex-decided (own (x .waits) o l) (n .thread) (n .lock) (fine-own (x .waits) l o (omega (arith, n .hint)) (k .waits)) (exact-own x k exact t l o a)
 
   half-read : (o : Outcome) → Inside (numbersOf (RwReadAttempt t l o)) room → Apt x (writerOf (x .waits) l) t l o
       → (0 < length (apply (RwReadAttempt t l o) x .reports)) ↔ Cycle (Truly (apply (RwReadAttempt t l o) x .tables))
@@ -374,7 +374,7 @@ module _ (x : Tables) (room t l : ℕ) (k : Kept x) (exact : Exact x) where
   half-read Took n a = absurd a
   half-read Blocked n a = decides-block (x .«rwlock_readers») (x .waits) t (n .thread) (k .waits) (exact-plain x k exact t l) (readOn l) (n .lock)
   half-read (Hinted o) n a =
-      decides-block (x .«rwlock_readers») (write (x .waits) l o) t (n .thread) (fine-write (x .waits) l o (omega (arith, n .hint)) (k .waits)) (exact-write x k exact t l o a) (readOn l) (n .lock)
+      decides-block (x .«rwlock_readers») (write (x .waits) o l) t (n .thread) (fine-write (x .waits) l o (omega (arith, n .hint)) (k .waits)) (exact-write x k exact t l o a) (readOn l) (n .lock)
 
   half-write : (o : Outcome) → Inside (numbersOf (RwWriteAttempt t l o)) room → Apt x (writerOf (x .waits) l) t l o
       → (0 < length (apply (RwWriteAttempt t l o) x .reports)) ↔ Cycle (Truly (apply (RwWriteAttempt t l o) x .tables))
@@ -384,13 +384,13 @@ module _ (x : Tables) (room t l : ℕ) (k : Kept x) (exact : Exact x) where
       decides-write (x .«rwlock_readers») (x .waits) t (n .thread) (k .waits) (exact-plain x k exact t l) l (n .lock)
       (λ e. acyclic-within (Truly x) (Edge (x .waits .«wait_for_graph» .edges)) (λ a b z. exact-all x k exact a b .1 z) (k .waits .graph .acyclic))
   half-write (Hinted o) n a =
-      decides-write (x .«rwlock_readers») (write (x .waits) l o) t (n .thread) (fine-write (x .waits) l o (omega (arith, n .hint)) (k .waits)) (exact-write x k exact t l o a) l (n .lock)
+      decides-write (x .«rwlock_readers») (write (x .waits) o l) t (n .thread) (fine-write (x .waits) l o (omega (arith, n .hint)) (k .waits)) (exact-write x k exact t l o a) l (n .lock)
       (λ e. absurd (taken (nobodyReads (x .«rwlock_readers») l) e))
     where
-      taken : (b : Bool) → cond b (eqb (writerOf (write (x .waits) l o) l) 32) false ≡ true → ⊥
+      taken : (b : Bool) → cond b (eqb (writerOf (write (x .waits) o l) l) 32) false ≡ true → ⊥
       taken true e =
-          let q : writerOf (write (x .waits) l o) l ≡ o = getD-set-same (x .waits .«rwlock_writer») l o 0 (rw (k .waits .shaped .written) (n .lock)) in
-          omega (arith, n .hint, q, eqb-true (writerOf (write (x .waits) l o) l) 32 e)
+          let q : writerOf (write (x .waits) o l) l ≡ o = getD-set-same (x .waits .«rwlock_writer») l o 0 (rw (k .waits .shaped .written) (n .lock)) in
+          omega (arith, n .hint, q, eqb-true (writerOf (write (x .waits) o l) l) 32 e)
       taken false e = false≢true e
 
 pub second-half : SecondHalf

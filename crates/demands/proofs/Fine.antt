@@ -48,10 +48,10 @@ module _ {w : Waits} where
 pub fine-graph : (w : Waits) (g : WaitForGraph) → Good g → Fine w → Fine (withGraph w g)
 fine-graph w g k f = fine-of (held-graph w g (k .sized) (held f)) k (f .named)
 
-pub fine-own : (w : Waits) (l o : ℕ) → o ≤ 32 → Fine w → Fine (own w l o)
+pub fine-own : (w : Waits) (l o : ℕ) → o ≤ 32 → Fine w → Fine (own w o l)
 fine-own w l o h f = fine-of (held-own w l o h (held f)) (f .graph) (f .named)
 
-pub fine-write : (w : Waits) (l o : ℕ) → o ≤ 32 → Fine w → Fine (write w l o)
+pub fine-write : (w : Waits) (l o : ℕ) → o ≤ 32 → Fine w → Fine (write w o l)
 fine-write w l o h f = fine-of (held-write w l o h (held f)) (f .graph) (f .named)
 
 pub fine-hold : (w : Waits) (t l : ℕ) → l < 64 → Fine w → Fine (hold w t l)

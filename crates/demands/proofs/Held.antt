@@ -40,7 +40,7 @@ pub record Held (w : Waits) : Type 0 where
 pub held-graph : (w : Waits) (g : WaitForGraph) → Sized g → Held w → Held (withGraph w g)
 held-graph w g k f = record { graph = k; range = range-graph w g (f .range); shaped = f .shaped }
 
-pub held-own : (w : Waits) (l o : ℕ) → o ≤ 32 → Held w → Held (own w l o)
+pub held-own : (w : Waits) (l o : ℕ) → o ≤ 32 → Held w → Held (own w o l)
 held-own w l o h f =
     let s = f .shaped in
     record {
@@ -49,7 +49,7 @@ held-own w l o h f =
       shaped = record { threads = s .threads; locks = s .locks; few = s .few; holders = s .holders; held = s .held; owned = simp length-set (s .owned); written = s .written };
     }
 
-pub held-write : (w : Waits) (l o : ℕ) → o ≤ 32 → Held w → Held (write w l o)
+pub held-write : (w : Waits) (l o : ℕ) → o ≤ 32 → Held w → Held (write w o l)
 held-write w l o h f =
     let s = f .shaped in
     record {

@@ -40,8 +40,8 @@ use Rattle.demands.specs.Invariants.{Counts, Seated, KeptWith}
 
 -- each rule of waiting keeps P
 pub record Rules (P : Waits → Type 0) : Type 0 where
-  pub owned : (w : Waits) (l o : ℕ) → o ≤ 32 → P w → P (own w l o)
-  pub wrote : (w : Waits) (l o : ℕ) → o ≤ 32 → P w → P (write w l o)
+  pub owned : (w : Waits) (l o : ℕ) → o ≤ 32 → P w → P (own w o l)
+  pub wrote : (w : Waits) (l o : ℕ) → o ≤ 32 → P w → P (write w o l)
   pub holding : (w : Waits) (t l : ℕ) → l < 64 → P w → P (hold w t l)
   pub unholding : (w : Waits) (t l : ℕ) → P w → P (unhold w t l)
   pub cleared : (w : Waits) (t : ℕ) → t < 32 → P w → P (clear w t)
@@ -70,21 +70,21 @@ sleeping-forget v c s = each-keeps CvWaits (λ u t. cond (eqb (condvarAt v t) c)
 counts-set : (c : List ℕ) (i n : ℕ) → n ≤ 255 → Counts c → Counts (set c i n)
 counts-set c i n h k = record { size = simp length-set (k .size); small = set-all (λ (x : ℕ). x ≤ 255) c i n 0 h (k .small) }
 
-counts-up : (x : Tables) (t l : ℕ) → fullCount x t l ≡ 0 → Counts (x .«rwlock_readers») → Counts (countUp (x .«rwlock_readers») l t)
+counts-up : (x : Tables) (t l : ℕ) → fullCount x t l ≡ 0 → Counts (x .«rwlock_readers») → Counts (countUp (x .«rwlock_readers») t l)
 unfolding countUp
-counts-up x t l e k = counts-set _ _ _ (go (eqb (countOf (x .«rwlock_readers») l t) 255) refl e) k
+counts-up x t l e k = counts-set _ _ _ (go (eqb (countOf (x .«rwlock_readers») t l) 255) refl e) k
   where
-    go : (b : Bool) → eqb (countOf (x .«rwlock_readers») l t) 255 ≡ b → cond {A = ℕ} b 8 0 ≡ 0 → countOf (x .«rwlock_readers») l t + 1 ≤ 255
+    go : (b : Bool) → eqb (countOf (x .«rwlock_readers») t l) 255 ≡ b → cond {A = ℕ} b 8 0 ≡ 0 → countOf (x .«rwlock_readers») t l + 1 ≤ 255
     go true p z = absurd (omega arith)
-    go false p z = let n : countOf (x .«rwlock_readers») l t ≡ 255 → ⊥ = eqb-false _ _ p in omega (arith, k .small (place l t))
+    go false p z = let n : countOf (x .«rwlock_readers») t l ≡ 255 → ⊥ = eqb-false _ _ p in omega (arith, k .small (place t l))
 
-counts-down : (c : List ℕ) (l t : ℕ) → Counts c → Counts (countDown c l t)
+counts-down : (c : List ℕ) (l t : ℕ) → Counts c → Counts (countDown c t l)
 unfolding countDown
-counts-down c l t k = counts-set _ _ _ (omega (arith, k .small (place l t))) k
+counts-down c l t k = counts-set _ _ _ (omega (arith, k .small (place t l))) k
 
 counts-none : (c : List ℕ) (l : ℕ) → Counts c → Counts (noReaders c l)
 unfolding noReaders
-counts-none c l k = each-keeps Counts (λ d t. setCount d l t 0) 32 c (λ d t h g. counts-set d _ 0 (omega arith) g) k
+counts-none c l k = each-keeps Counts (λ d t. setCount d t l 0) 32 c (λ d t h g. counts-set d _ 0 (omega arith) g) k
 
 seated-snoc : (q : List Pair) (p : Pair) → p .thread < 32 → p .lock < 64 → Seated q → Seated (q ++ (p ∷ []))
 seated-snoc [] p h i s = (h, i, tt)
@@ -272,12 +272,12 @@ module _ {P : Waits → Type 0} (rules : Rules P) where
 
     kept-try : (t l : ℕ) → fullCount x t l ≡ 0 → KeptWith P (tryRead x t l .tables)
     unfolding tryRead
-    kept-try t l e = put-counts x _ _ (rules .refreshed (countUp (x .«rwlock_readers») l t) (x .waits) l (k .waits)) (counts-up x t l e (k .counts)) k
+    kept-try t l e = put-counts x _ _ (rules .refreshed (countUp (x .«rwlock_readers») t l) (x .waits) l (k .waits)) (counts-up x t l e (k .counts)) k
 
     kept-released : (t l : ℕ) → t < 32 → KeptWith P (releaseRead x t l .tables)
     unfolding releaseRead
     kept-released t l h =
-        put-counts x _ _ (if-keeps (eqb (countOf (x .«rwlock_readers») l t - 1) 0) (loosen (x .waits) t l) (x .waits) (rules .loosened (x .waits) t l h (k .waits)) (k .waits))
+        put-counts x _ _ (if-keeps (eqb (countOf (x .«rwlock_readers») t l - 1) 0) (loosen (x .waits) t l) (x .waits) (rules .loosened (x .waits) t l h (k .waits)) (k .waits))
         (counts-down (x .«rwlock_readers») l t (k .counts)) k
 
     kept-write : (t l : ℕ) → t < 32 → l < 64 → KeptWith P (completeWrite x t l .tables)

@@ -7,6 +7,7 @@ use mathlib.Core.Bool.{true}
 use mathlib.Core.Option.{Option, some}
 use Prim.Native.Nat.{ℕ, _<_}
 use lib.ListN.{length, take}
+use Rattle.sets.specs.Limits.{THREADS, LOCKS}
 use Rattle.sets.specs.Lists.{In, Distinct}
 use Rattle.sets.specs.Sets.{has}
 use Rattle.graph.specs.Ways.{Ring, Cycle}
@@ -40,15 +41,15 @@ use Rattle.demands.specs.Driven.{Call, Back, Driven, Starts}
 -- A TRUE CYCLE in waits w with reader counts c
 -- p's thread awaits the lock beside its name and o owns it so as to block that wait. Read so: it has an intent that names
 -- the lock, and o is among the owners that block that intent (mutex owner, writer, readers), not "o holds the lock".
-pub record Blocks (c : List ℕ) (w : Waits) (p : Entry) (o : ℕ) : Type 0 where
+pub record Blocks (counts : List ℕ) (w : Waits) (p : Entry) (o : ℕ) : Type 0 where
   pub intent : WaitIntent
   pub awaits : intentOf w (p .thread) ≡ For intent
   pub beside : intent .«lock_id» ≡ p .lock
-  pub owns : In o (owners c w intent)
+  pub owns : In o (owners counts w intent)
 
-pub record TrueCycle (c : List ℕ) (w : Waits) (ps : List Entry) : Type 0 where
+pub record TrueCycle (counts : List ℕ) (w : Waits) (ps : List Entry) : Type 0 where
   pub once : Distinct (map (λ p. p .thread) ps)
-  pub closed : Ring (λ p q. Blocks c w p (q .thread)) ps
+  pub closed : Ring (λ p q. Blocks counts w p (q .thread)) ps
 
 -- THE STATE IN WHICH IT IS TRUE: that of its last validation, which is the state after the event; for ca, the state after
 -- some of the pairs are treated
@@ -79,7 +80,7 @@ FirstHalf = (x : Tables) (room : ℕ) (e : Event) → Reached x → Each (TrueRe
 
 -- the edges are exactly the true waits
 abbrev pub Exact : Tables → Type 0
-Exact x = (a b : ℕ) → a < 32 → b < 32 → Edge (x .waits .«wait_for_graph» .edges) a b ↔ Truly x a b
+Exact x = (a b : ℕ) → a < THREADS → b < THREADS → Edge (x .waits .«wait_for_graph» .edges) a b ↔ Truly x a b
 
 -- nobody but t awaits l. To await is to have an intent; `lock_waiters` may lack a thread that has one.
 abbrev pub Alone : Tables → ℕ → ℕ → Type 0
@@ -96,17 +97,17 @@ Apt x recorded t l (Hinted o) = (o ≡ recorded) ⊎ Alone x t l
 abbrev pub hinted : Waits → ℕ → Outcome → Waits
 hinted w l Took = w
 hinted w l Blocked = w
-hinted w l (Hinted o) = own w l o
+hinted w l (Hinted o) = own w o l
 
 abbrev pub pathFound : Tables → ℕ → ℕ → Outcome → Option (List ℕ)
 pathFound x t l o = register (x .«rwlock_readers») (hinted (x .waits) l o) t (mutexOn l) .found
 
 -- all threads of p hold one lock that nobody reads
-pub record Shared (c : List ℕ) (w : Waits) (p : List ℕ) : Type 0 where
+pub record Shared (counts : List ℕ) (w : Waits) (p : List ℕ) : Type 0 where
   pub lock : ℕ
-  pub inside : lock < 64
+  pub inside : lock < LOCKS
   pub held : (t : ℕ) → In t p → has (holdsOf w t) lock ≡ true
-  pub nobodyReads : (t : ℕ) → t < 32 → countOf c lock t ≡ 0
+  pub nobodyReads : (t : ℕ) → t < THREADS → countOf counts t lock ≡ 0
 
 abbrev pub Spared : Tables → ℕ → ℕ → Outcome → Tables → Type 0
 Spared x t l o y = (p : List ℕ) × (pathFound x t l o ≡ some p) × Shared (y .«rwlock_readers») (y .waits) p

@@ -4,6 +4,9 @@ use mathlib.Core.List.{List, [], _∷_}
 use mathlib.Core.Bool.{true}
 use Prim.Native.Nat.{ℕ, _<_, _≤_, _^_}
 use lib.ListN.{getD, length}
+use Rattle.sets.specs.Limits.{THREADS, LOCKS}
+use Rattle.detector.specs.Limits.{CONDVARS, PLACES}
+use Rattle.waits.specs.Owners.{COUNTS}
 use Rattle.sets.specs.Sets.{has}
 use Rattle.graph.specs.Search.{row}
 use Rattle.graph.specs.Graph.{Good}
@@ -21,13 +24,13 @@ use Rattle.demands.specs.Reached.{Reached}
 
 -- 32 threads and 64 locks, and sets of them
 pub record Shaped (slots : List Slot) (waiters holds owners writers : List ℕ) : Type 0 where
-  pub threads : length slots ≡ 32
-  pub locks : length waiters ≡ 64
+  pub threads : length slots ≡ THREADS
+  pub locks : length waiters ≡ LOCKS
   pub few : (l : ℕ) → row waiters l < 2 ^ 32
-  pub holders : length holds ≡ 32
+  pub holders : length holds ≡ THREADS
   pub held : (t : ℕ) → row holds t < 2 ^ 64
-  pub owned : length owners ≡ 64
-  pub written : length writers ≡ 64
+  pub owned : length owners ≡ LOCKS
+  pub written : length writers ≡ LOCKS
 
 pub record Fine (w : Waits) : Type 0 where
   -- `edges` and `incoming_edges` mirror each other and hold no cycle, not even of one thread
@@ -38,23 +41,23 @@ pub record Fine (w : Waits) : Type 0 where
   pub shaped : Shaped (w .«thread_waits_for») (w .«lock_waiters») (w .«thread_holds») (w .«mutex_owners») (w .«rwlock_writer»)
 
 -- at most 255 at each of 64 locks and 32 threads
-pub record Counts (c : List ℕ) : Type 0 where
-  pub size : length c ≡ 2048
-  pub small : (k : ℕ) → getD c k 0 ≤ 255
+pub record Counts (counts : List ℕ) : Type 0 where
+  pub size : length counts ≡ COUNTS
+  pub small : (k : ℕ) → getD counts k 0 ≤ 255
 
 -- every pair of a queue in range
 abbrev pub Seated : List Pair → Type 0
 Seated [] = Unit
-Seated (p ∷ q) = (p .thread < 32) × (p .lock < 64) × Seated q
+Seated (p ∷ q) = (p .thread < THREADS) × (p .lock < LOCKS) × Seated q
 
 -- waits of which P holds, and the other tables in their ranges
 pub record KeptWith (P : Waits → Type 0) (x : Tables) : Type 0 where
   pub waits : P (x .waits)
   pub counts : Counts (x .«rwlock_readers»)
-  pub condvars : length (x .«cv_waiters») ≡ 16
-  pub queues : (c : ℕ) → length (queueOf x c) ≤ 32
+  pub condvars : length (x .«cv_waiters») ≡ CONDVARS
+  pub queues : (c : ℕ) → length (queueOf x c) ≤ PLACES
   pub seated : (c : ℕ) → Seated (queueOf x c)
-  pub cvPlaces : length (x .«thread_wait_cv») ≡ 32
+  pub cvPlaces : length (x .«thread_wait_cv») ≡ THREADS
   pub cvWaits : (t : ℕ) → ValidCvWait (getD (x .«thread_wait_cv») t blankCvWait)
   pub woken : x .«cv_woken» < 2 ^ 32
 

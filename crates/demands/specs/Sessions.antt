@@ -3,6 +3,7 @@ use mathlib.Core.Path.{_≡_}
 use mathlib.Core.List.{List, [], _∷_, _++_, map}
 use Prim.Native.Nat.{ℕ}
 use lib.ListN.{getD}
+use Rattle.sets.specs.Limits.{THREADS}
 use Rattle.sets.specs.Sets.{upward}
 use Rattle.sets.specs.Below.{each}
 use Rattle.graph.specs.Search.{row}
@@ -38,14 +39,14 @@ pub record Seen : Type 0 where
   pub stuck : ℕ
 
 unfoldable pub edgesIn : List ℕ → Pairs
-edgesIn rows = each (λ l t. l ++ map (λ o. (t, o)) (upward 32 (row rows t))) [] 32
+edgesIn rows = each (λ l t. l ++ map (λ o. (t, o)) (upward THREADS (row rows t))) [] THREADS
 
 abbrev pub intentFrom : ℕ → Awaits → Pairs
 intentFrom t Nothing = []
 intentFrom t (For i) = (t, i .«lock_id») ∷ []
 
 unfoldable pub intentsIn : Waits → Pairs
-intentsIn w = each (λ l t. l ++ intentFrom t (intentOf w t)) [] 32
+intentsIn w = each (λ l t. l ++ intentFrom t (intentOf w t)) [] THREADS
 
 -- a report as document 01 prints it
 abbrev pub printed : Report → Pairs

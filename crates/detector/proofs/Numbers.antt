@@ -98,7 +98,7 @@ known-if false p q = q
 
 module _ (x : Tables) where
   count-known : (t l : ℕ) → Known (fullCount x t l)
-  count-known t l = known-if (eqb (countOf (x .«rwlock_readers») l t) 255) (known 8 (lit≤ tt) (lit≤ tt)) known-none
+  count-known t l = known-if (eqb (countOf (x .«rwlock_readers») t l) 255) (known 8 (lit≤ tt) (lit≤ tt)) known-none
 
   full-known : (e : Event) → Known (full x e)
   full-known (RwReadAttempt t l Took) = count-known t l

@@ -88,31 +88,31 @@ as-hinted F G b p q Blocked e = p
 as-hinted F G b p q (Hinted h) e = q h
 
 -- an owner, or a writer, that is written again
-own-same : (w : Waits) (l : ℕ) → own w l (ownerOf w l) ≡ w
+own-same : (w : Waits) (l : ℕ) → own w (ownerOf w l) l ≡ w
 own-same w l = rw (set-getD (w .«mutex_owners») l 0)
 
-write-same : (w : Waits) (l : ℕ) → write w l (writerOf w l) ≡ w
+write-same : (w : Waits) (l : ℕ) → write w (writerOf w l) l ≡ w
 write-same w l = rw (set-getD (w .«rwlock_writer») l 0)
 
 module _ (x : Tables) (t l : ℕ) where
-  pub mutex-blocked : (o : Outcome) → blocked o ≡ true → acquireSlow x (own (x .waits) l (hinted (ownerOf (x .waits) l) o)) t l ≡ mutexAttempt x t l o
-  mutex-blocked = as-hinted (mutexAttempt x t l) (λ h. acquireSlow x (own (x .waits) l h) t l) _ (ap (λ w. acquireSlow x w t l) (own-same (x .waits) l)) (λ h. refl)
+  pub mutex-blocked : (o : Outcome) → blocked o ≡ true → acquireSlow x (own (x .waits) (hinted (ownerOf (x .waits) l) o) l) t l ≡ mutexAttempt x t l o
+  mutex-blocked = as-hinted (mutexAttempt x t l) (λ h. acquireSlow x (own (x .waits) h l) t l) _ (ap (λ w. acquireSlow x w t l) (own-same (x .waits) l)) (λ h. refl)
 
-  pub read-blocked : (o : Outcome) → blocked o ≡ true → acquireRead x (write (x .waits) l (hinted (writerOf (x .waits) l) o)) t l ≡ readAttempt x t l o
-  read-blocked = as-hinted (readAttempt x t l) (λ h. acquireRead x (write (x .waits) l h) t l) _ (ap (λ w. acquireRead x w t l) (write-same (x .waits) l)) (λ h. refl)
+  pub read-blocked : (o : Outcome) → blocked o ≡ true → acquireRead x (write (x .waits) (hinted (writerOf (x .waits) l) o) l) t l ≡ readAttempt x t l o
+  read-blocked = as-hinted (readAttempt x t l) (λ h. acquireRead x (write (x .waits) h l) t l) _ (ap (λ w. acquireRead x w t l) (write-same (x .waits) l)) (λ h. refl)
 
-  pub write-blocked : (o : Outcome) → blocked o ≡ true → acquireWrite x (write (x .waits) l (hinted (writerOf (x .waits) l) o)) t l ≡ writeAttempt x t l o
-  write-blocked = as-hinted (writeAttempt x t l) (λ h. acquireWrite x (write (x .waits) l h) t l) _ (ap (λ w. acquireWrite x w t l) (write-same (x .waits) l)) (λ h. refl)
+  pub write-blocked : (o : Outcome) → blocked o ≡ true → acquireWrite x (write (x .waits) (hinted (writerOf (x .waits) l) o) l) t l ≡ writeAttempt x t l o
+  write-blocked = as-hinted (writeAttempt x t l) (λ h. acquireWrite x (write (x .waits) h l) t l) _ (ap (λ w. acquireWrite x w t l) (write-same (x .waits) l)) (λ h. refl)
 
 -- ---- a count that may rise
 
-pub not-full : (x : Tables) (t l : ℕ) → fullCount x t l ≡ 0 → countOf (x .«rwlock_readers») l t ≡ 255 → ⊥
-not-full x t l e q = omega (arith, sym (ap (λ b. cond b 8 0) (eq-eqb (countOf (x .«rwlock_readers») l t) 255 q)) ∙ e)
+pub not-full : (x : Tables) (t l : ℕ) → fullCount x t l ≡ 0 → countOf (x .«rwlock_readers») t l ≡ 255 → ⊥
+not-full x t l e q = omega (arith, sym (ap (λ b. cond b 8 0) (eq-eqb (countOf (x .«rwlock_readers») t l) 255 q)) ∙ e)
 
 -- the count after it fell
-pub count-down-at : (c : List ℕ) (l t : ℕ) → place l t < length c → countOf (countDown c l t) l t ≡ countOf c l t - 1
+pub count-down-at : (c : List ℕ) (l t : ℕ) → place t l < length c → countOf (countDown c t l) t l ≡ countOf c t l - 1
 unfolding countDown
-count-down-at c l t h = getD-set-same c (place l t) (countOf c l t - 1) 0 h
+count-down-at c l t h = getD-set-same c (place t l) (countOf c t l - 1) 0 h
 
 pub judges-length : {r : Judged} {b e : List ℕ} {from : ℕ} {a : Judging} → Judges r b e from a → length e ≡ length b
 judges-length {b = b} {from = from} {a = a} t = ap length (t .bytes) ∙ laid-length b from (written (a .reports))

@@ -22,11 +22,11 @@ range-gain w t l s = range-clear _ t (range-holds w _ s)
 
 pub range-released : (w : Waits) (t l : ℕ) → InRange w → InRange (released w t l)
 unfolding released
-range-released w t l s = range-holds _ _ (range-cond (eqb (ownerOf w l) t) (own w l 32) w (range-own w l 32 (lit≤ tt) s) s)
+range-released w t l s = range-holds _ _ (range-cond (eqb (ownerOf w l) t) (own w 32 l) w (range-own w l 32 (lit≤ tt) s) s)
 
 pub range-write-released : (w : Waits) (t l : ℕ) → InRange w → InRange (writeReleased w t l)
 unfolding writeReleased
-range-write-released w t l s = range-holds _ _ (range-cond (eqb (writerOf w l) t) (write w l 32) w (range-write w l 32 (lit≤ tt) s) s)
+range-write-released w t l s = range-holds _ _ (range-cond (eqb (writerOf w l) t) (write w 32 l) w (range-write w l 32 (lit≤ tt) s) s)
 
 pub range-loosen : (w : Waits) (t l : ℕ) → InRange w → InRange (loosen w t l)
 unfolding loosen

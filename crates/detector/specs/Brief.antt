@@ -2,6 +2,7 @@
 use mathlib.Core.List.{List}
 use Prim.Native.Nat.{ℕ, _<_, _≤_}
 use lib.ListN.{length}
+use Rattle.detector.specs.Limits.{CONDVARS, PLACES}
 use Rattle.waits.specs.Report.{Report, written}
 use Rattle.detector.specs.Refusals.{bufferBytes}
 use Rattle.detector.specs.Tables.{Tables, queueOf}
@@ -29,7 +30,7 @@ most (CondvarSpawn c) = 0
 most (CondvarExit c) = 0
 most (CondvarWaitBegin t c l) = 0
 most (CondvarNotifyOne c) = 1
-most (CondvarNotifyAll c) = 32
+most (CondvarNotifyAll c) = PLACES
 most (CondvarWaitEnd t c l) = 0
 
 -- so few reports, and 2,080 bytes always suffice
@@ -39,7 +40,7 @@ pub record Brief (e : Event) (rs : List Report) : Type 0 where
 
 -- THE THEOREMS (`all-brief`, `valid-brief`): wherever no queue is longer than 32, so in every valid state of the code
 abbrev pub ShortQueues : Tables → Type 0
-ShortQueues x = (c : ℕ) → c < 16 → length (queueOf x c) ≤ 32
+ShortQueues x = (c : ℕ) → c < CONDVARS → length (queueOf x c) ≤ PLACES
 
 abbrev pub AllBrief : Type 0
 AllBrief = (x : Tables) (room : ℕ) (e : Event) → ShortQueues x → Brief e (effect x room e .reports)

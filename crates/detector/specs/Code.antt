@@ -3,6 +3,7 @@ use mathlib.Core.List.{List, [], _∷_}
 use mathlib.Core.Bool.{Bool, true, false}
 use Prim.Native.Nat.{ℕ}
 use lib.ListN.{replicate}
+use Rattle.detector.specs.Limits.{PLACES}
 use Rattle.waits.specs.declared.tables.Waits.{Waits}
 use Rattle.waits.specs.declared.outcome.Outcome.{Outcome}
 use Rattle.waits.specs.declared.outcome.Outcome.the-variants.{Took, Blocked, Hinted}
@@ -20,10 +21,10 @@ putWaits d w n =
     record { detector = record { waits = w; «cv_woken» = d .«cv_woken»; «rwlock_readers» = d .«rwlock_readers»; condvars = d .condvars }; reports = n }
 
 abbrev pub putCounts : Detector → Waits → List ℕ → Done
-putCounts d w c = record { detector = record { waits = w; «cv_woken» = d .«cv_woken»; «rwlock_readers» = c; condvars = d .condvars }; reports = 0 }
+putCounts d w counts = record { detector = record { waits = w; «cv_woken» = d .«cv_woken»; «rwlock_readers» = counts; condvars = d .condvars }; reports = 0 }
 
 abbrev pub emptyQueue : Queue
-emptyQueue = record { pairs = replicate 32 noPair; len = 0 }
+emptyQueue = record { pairs = replicate PLACES noPair; len = 0 }
 
 abbrev pub tailOf : List Pair → List Pair
 tailOf [] = []

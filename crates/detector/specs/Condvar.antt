@@ -4,6 +4,7 @@ use mathlib.Core.Bool.{Bool, false, cond}
 use Prim.Native.Nat.{ℕ}
 use lib.Dec.{eqb, ltb}
 use lib.ListN.{getD, set}
+use Rattle.sets.specs.Limits.{THREADS}
 use Rattle.sets.specs.Sets.{with, without}
 use Rattle.sets.specs.Below.{each}
 use Rattle.waits.specs.Tables.{ownerOf}
@@ -24,7 +25,7 @@ abbrev pub condvarAt : List CvWait → ℕ → ℕ
 condvarAt v t = getD v t blankCvWait .condvar
 
 unfoldable pub forget : List CvWait → ℕ → List CvWait
-forget v c = each (λ u t. cond (eqb (condvarAt v t) c) (set u t noCvWait) u) v 32
+forget v c = each (λ u t. cond (eqb (condvarAt v t) c) (set u t noCvWait) u) v THREADS
 
 unfoldable pub destroyCondvar : Tables → ℕ → Effect
 destroyCondvar x c = silent (withQueue x c [] (forget (x .«thread_wait_cv») c))
@@ -41,15 +42,15 @@ pub record Woken : Type 0 where
   pub reports : List Report
 
 unfoldable pub attempted : List ℕ → Waits → Pair → Judging
-attempted c w p = cond (ltb (ownerOf w (p .lock)) 32) (blockMutex c w (p .thread) (p .lock)) (quiet w)
+attempted counts w p = cond (ltb (ownerOf w (p .lock)) THREADS) (blockMutex counts w (p .thread) (p .lock)) (quiet w)
 
 unfoldable pub wake : List ℕ → Woken → Pair → Woken
-wake c s p =
-    let a = attempted c (s .waits) p in
+wake counts s p =
+    let a = attempted counts (s .waits) p in
     record { waits = a .waits; woken = with (s .woken) (p .thread); reports = s .reports ++ a .reports }
 
 unfoldable pub wakeAll : List ℕ → Woken → List Pair → Woken
-wakeAll c s q = foldl (wake c) s q
+wakeAll counts s q = foldl (wake counts) s q
 
 -- the pairs of q are woken, and the queue of c is left with rest
 abbrev pub notify : Tables → ℕ → List Pair → List Pair → Effect

@@ -1,4 +1,5 @@
 -- The detector of document 01: its tables, its events, its refusals.
+pub mod Limits
 pub mod Tables
 pub mod Mutex
 pub mod RwLock

@@ -3,6 +3,8 @@ use mathlib.Core.Bool.{cond}
 use Prim.Native.Nat.{ℕ, _*_, _<_, _≤_}
 use lib.Dec.{ltb, eqb}
 use lib.ListN.{length}
+use Rattle.sets.specs.Limits.{THREADS, LOCKS}
+use Rattle.detector.specs.Limits.{CONDVARS, PLACES}
 use Rattle.waits.specs.Owners.{countOf}
 use Rattle.waits.specs.Report.{reportBytes}
 use Rattle.waits.specs.declared.outcome.Outcome.{Outcome}
@@ -50,7 +52,7 @@ numbersOf (CondvarWaitEnd t c l) = numbers t 0 l c
 
 -- 2,080: room for 32 reports
 abbrev pub bufferBytes : ℕ
-bufferBytes = 32 * reportBytes
+bufferBytes = PLACES * reportBytes
 
 -- 3 thread or hint above 31; 4 lock above 63; 5 condvar above 15; 6 report buffer below 2,080 bytes; else the next
 unfoldable pub outside : Numbers → ℕ → ℕ → ℕ
@@ -63,10 +65,10 @@ outside n room next =
 
 -- 7 cb on a queue of 32; 8 ra, rc or rt taken at count 255
 abbrev pub fullQueue : Tables → ℕ → ℕ
-fullQueue x c = cond (ltb (length (queueOf x c)) 32) 0 7
+fullQueue x c = cond (ltb (length (queueOf x c)) PLACES) 0 7
 
 abbrev pub fullCount : Tables → ℕ → ℕ → ℕ
-fullCount x t l = cond (eqb (countOf (x .«rwlock_readers») l t) 255) 8 0
+fullCount x t l = cond (eqb (countOf (x .«rwlock_readers») t l) 255) 8 0
 
 abbrev pub fullAttempt : Tables → ℕ → ℕ → Outcome → ℕ
 fullAttempt x t l Took = fullCount x t l
@@ -102,8 +104,8 @@ refusal x room e = outside (numbersOf e) room (full x e)
 
 -- the numbers of an accepted event lie inside
 pub record Inside (n : Numbers) (size : ℕ) : Type 0 where
-  pub thread : n .thread < 32
-  pub hint : n .hint < 32
-  pub lock : n .lock < 64
-  pub condvar : n .condvar < 16
+  pub thread : n .thread < THREADS
+  pub hint : n .hint < THREADS
+  pub lock : n .lock < LOCKS
+  pub condvar : n .condvar < CONDVARS
   pub room : bufferBytes ≤ size

@@ -4,6 +4,7 @@ use mathlib.Core.Bool.{cond}
 use Prim.Native.Nat.{ℕ, _+_, _-_}
 use lib.Dec.{eqb}
 use lib.ListN.{set}
+use Rattle.sets.specs.Limits.{THREADS, NOBODY}
 use Rattle.sets.specs.Sets.{upward}
 use Rattle.sets.specs.Below.{each}
 use Rattle.graph.specs.Graph.{removeEdgesTo}
@@ -21,17 +22,17 @@ use Rattle.detector.specs.Mutex.{gain, purge}
 
 -- the counts with n for lock l and thread t
 abbrev pub setCount : List ℕ → ℕ → ℕ → ℕ → List ℕ
-setCount c l t n = set c (place l t) n
+setCount counts t l n = set counts (place t l) n
 
 unfoldable pub countUp : List ℕ → ℕ → ℕ → List ℕ
-countUp c l t = setCount c l t (countOf c l t + 1)
+countUp counts t l = setCount counts t l (countOf counts t l + 1)
 
 unfoldable pub countDown : List ℕ → ℕ → ℕ → List ℕ
-countDown c l t = setCount c l t (countOf c l t - 1)
+countDown counts t l = setCount counts t l (countOf counts t l - 1)
 
 -- rc t l: count + 1; clear t; no refresh
 unfoldable pub completeRead : Tables → ℕ → ℕ → Effect
-completeRead x t l = silent (withCounts x (clear (x .waits) t) (countUp (x .«rwlock_readers») l t))
+completeRead x t l = silent (withCounts x (clear (x .waits) t) (countUp (x .«rwlock_readers») t l))
 
 -- ra t l o: took: as rc. Blocked: a hint becomes writer; register RwRead; validate, no filter
 unfoldable pub acquireRead : Tables → Waits → ℕ → ℕ → Effect
@@ -40,11 +41,11 @@ acquireRead x w t l = withJudging x (block (x .«rwlock_readers») w t (readOn l
 abbrev pub readAttempt : Tables → ℕ → ℕ → Outcome → Effect
 readAttempt x t l Took = completeRead x t l
 readAttempt x t l Blocked = acquireRead x (x .waits) t l
-readAttempt x t l (Hinted o) = acquireRead x (write (x .waits) l o) t l
+readAttempt x t l (Hinted o) = acquireRead x (write (x .waits) o l) t l
 
 -- rt t l o: took: count + 1; refresh l, path dropped; t's intent stays. Blocked: nothing
 unfoldable pub tryRead : Tables → ℕ → ℕ → Effect
-tryRead x t l = let c = countUp (x .«rwlock_readers») l t in silent (withCounts x (refresh c (x .waits) l .waits) c)
+tryRead x t l = let counts = countUp (x .«rwlock_readers») t l in silent (withCounts x (refresh counts (x .waits) l .waits) counts)
 
 abbrev pub readTry : Tables → ℕ → ℕ → Tried → Effect
 readTry x t l Taken = tryRead x t l
@@ -52,17 +53,17 @@ readTry x t l Missed = silent x
 
 -- edges from l's waiters to t go
 unfoldable pub loosen : Waits → ℕ → ℕ → Waits
-loosen w t l = withGraph w (removeEdgesTo t (w .«wait_for_graph») (upward 32 (waitersOf w l)))
+loosen w t l = withGraph w (removeEdgesTo t (w .«wait_for_graph») (upward THREADS (waitersOf w l)))
 
 -- rr t l: count - 1 if above 0; if 0 now or before, drop edges from l's waiters to t
 unfoldable pub releaseRead : Tables → ℕ → ℕ → Effect
 releaseRead x t l =
-    let c = x .«rwlock_readers» in
-    silent (withCounts x (cond (eqb (countOf c l t - 1) 0) (loosen (x .waits) t l) (x .waits)) (countDown c l t))
+    let counts = x .«rwlock_readers» in
+    silent (withCounts x (cond (eqb (countOf counts t l - 1) 0) (loosen (x .waits) t l) (x .waits)) (countDown counts t l))
 
 -- wc t l: writer is t; then as mc from the holds on
 unfoldable pub writeAcquired : Waits → ℕ → ℕ → Waits
-writeAcquired w t l = gain (write w l t) t l
+writeAcquired w t l = gain (write w t l) t l
 
 unfoldable pub completeWrite : Tables → ℕ → ℕ → Effect
 completeWrite x t l = withJudging x (settle (x .«rwlock_readers») (writeAcquired (x .waits) t l) l)
@@ -75,18 +76,18 @@ acquireWrite x w t l = withJudging x (blockWrite (x .«rwlock_readers») w t l)
 abbrev pub writeAttempt : Tables → ℕ → ℕ → Outcome → Effect
 writeAttempt x t l Took = completeWrite x t l
 writeAttempt x t l Blocked = acquireWrite x (x .waits) t l
-writeAttempt x t l (Hinted o) = acquireWrite x (write (x .waits) l o) t l
+writeAttempt x t l (Hinted o) = acquireWrite x (write (x .waits) o l) t l
 
 -- wr t l: writer none if it was t; l leaves t's holds; drop edges from l's waiters to t
 unfoldable pub writeReleased : Waits → ℕ → ℕ → Waits
-writeReleased w t l = unhold (cond (eqb (writerOf w l) t) (write w l 32) w) t l
+writeReleased w t l = unhold (cond (eqb (writerOf w l) t) (write w NOBODY l) w) t l
 
 unfoldable pub releaseWrite : Tables → ℕ → ℕ → Effect
 releaseWrite x t l = silent (withWaits x (loosen (writeReleased (x .waits) t l) t l))
 
 -- rd l: no writer, no readers, out of all holds, no waiters; intents and edges stay
 unfoldable pub noReaders : List ℕ → ℕ → List ℕ
-noReaders c l = each (λ d t. setCount d l t 0) c 32
+noReaders counts l = each (λ d t. setCount d t l 0) counts THREADS
 
 unfoldable pub destroyRwLock : Tables → ℕ → Effect
-destroyRwLock x l = silent (withCounts x (purge (write (x .waits) l 32) l) (noReaders (x .«rwlock_readers») l))
+destroyRwLock x l = silent (withCounts x (purge (write (x .waits) NOBODY l) l) (noReaders (x .«rwlock_readers») l))

@@ -5,6 +5,8 @@ use mathlib.Core.Bool.{Bool, false, cond}
 use Prim.Native.Nat.{ℕ, _<_, _≤_}
 use lib.Dec.{ltb, eqb}
 use lib.ListN.{getD, length, take}
+use Rattle.sets.specs.Limits.{THREADS, LOCKS}
+use Rattle.detector.specs.Limits.{CONDVARS, NONE, PLACES}
 use Rattle.sets.specs.Below.{every}
 use Rattle.waits.specs.Tables.{InRange, intentOf, lockOf, ownerOf, writerOf}
 use Rattle.waits.specs.declared.tables.Waits.{Waits}
@@ -33,45 +35,45 @@ abbrev pub blankQueue : Queue
 blankQueue = record { pairs = []; len = 0 }
 
 pub record Queued (q : Queue) : Type 0 where
-  pub long : q .len ≤ 32
-  pub cells : length (q .pairs) ≡ 32
-  pub threads : (k : ℕ) → getD (q .pairs) k noPair .thread < 32
-  pub locks : (k : ℕ) → getD (q .pairs) k noPair .lock < 64
+  pub long : q .len ≤ PLACES
+  pub cells : length (q .pairs) ≡ PLACES
+  pub threads : (k : ℕ) → getD (q .pairs) k noPair .thread < THREADS
+  pub locks : (k : ℕ) → getD (q .pairs) k noPair .lock < LOCKS
   pub behind : (k : ℕ) → q .len ≤ k → getD (q .pairs) k noPair ≡ noPair
 
 pub record ValidCvWait (v : CvWait) : Type 0 where
-  pub condvar : v .condvar ≤ 16
-  pub lock : v .lock < 64
-  pub absent : v .condvar ≡ 16 → v .lock ≡ 0
+  pub condvar : v .condvar ≤ NONE
+  pub lock : v .lock < LOCKS
+  pub absent : v .condvar ≡ NONE → v .lock ≡ 0
 
 pub record Valid (d : Detector) : Type 0 where
   pub waits : InRange (d .waits)
-  pub queues : (c : ℕ) → c < 16 → Queued (getD (d .condvars .«cv_waiters») c blankQueue)
+  pub queues : (c : ℕ) → c < CONDVARS → Queued (getD (d .condvars .«cv_waiters») c blankQueue)
   pub cvWaits : (t : ℕ) → ValidCvWait (getD (d .condvars .«thread_wait_cv») t blankCvWait)
 
 -- the same as a test: refusal 2 is given exactly when it fails
 unfoldable pub rangeTest : Waits → Bool
 rangeTest w =
-    cond (every (λ t. ltb (lockOf (intentOf w t)) 64) 32)
-    (cond (every (λ l. ltb (ownerOf w l) 33) 64) (every (λ l. ltb (writerOf w l) 33) 64) false)
+    cond (every (λ t. ltb (lockOf (intentOf w t)) LOCKS) THREADS)
+    (cond (every (λ l. ltb (ownerOf w l) 33) LOCKS) (every (λ l. ltb (writerOf w l) 33) LOCKS) false)
     false
 
 -- a place of a queue of n pairs
 abbrev pub placeTest : ℕ → ℕ → Pair → Bool
 placeTest n k p =
     cond (ltb k n)
-    (cond (ltb (p .thread) 32) (ltb (p .lock) 64) false)
+    (cond (ltb (p .thread) THREADS) (ltb (p .lock) LOCKS) false)
     (cond (eqb (p .thread) 0) (eqb (p .lock) 0) false)
 
 unfoldable pub queueTest : Queue → Bool
-queueTest q = cond (ltb (q .len) 33) (every (λ k. placeTest (q .len) k (getD (q .pairs) k noPair)) 32) false
+queueTest q = cond (ltb (q .len) 33) (every (λ k. placeTest (q .len) k (getD (q .pairs) k noPair)) PLACES) false
 
 abbrev pub cvWaitTest : CvWait → Bool
-cvWaitTest v = cond (eqb (v .condvar) 16) (eqb (v .lock) 0) (cond (ltb (v .condvar) 16) (ltb (v .lock) 64) false)
+cvWaitTest v = cond (eqb (v .condvar) NONE) (eqb (v .lock) 0) (cond (ltb (v .condvar) CONDVARS) (ltb (v .lock) LOCKS) false)
 
 unfoldable pub validTest : Detector → Bool
 validTest d =
     cond (rangeTest (d .waits))
-    (cond (every (λ c. queueTest (getD (d .condvars .«cv_waiters») c blankQueue)) 16)
-    (every (λ t. cvWaitTest (getD (d .condvars .«thread_wait_cv») t blankCvWait)) 32) false)
+    (cond (every (λ c. queueTest (getD (d .condvars .«cv_waiters») c blankQueue)) CONDVARS)
+    (every (λ t. cvWaitTest (getD (d .condvars .«thread_wait_cv») t blankCvWait)) THREADS) false)
     false

@@ -6,6 +6,7 @@ use mathlib.Core.Option.{Option, none, some}
 use Prim.Native.Nat.{ℕ, _+_}
 use lib.ListN.{length, set, replicate}
 use lib.Count.{ones}
+use Rattle.sets.specs.Limits.{THREADS}
 use Rattle.sets.specs.Sets.{with, upward}
 use Rattle.sets.specs.Below.{those, each}
 use Rattle.graph.specs.Ways.{Rel, Walk}
@@ -30,7 +31,7 @@ abbrev pub maskOf : List ℕ → ℕ
 maskOf os = foldl with 0 os
 
 unfoldable pub trueWaits : List ℕ → Waits → List ℕ
-trueWaits c w = each (λ r t. set r t (maskOf (blocking c w (intentOf w t)))) (replicate 32 0) 32
+trueWaits counts w = each (λ r t. set r t (maskOf (blocking counts w (intentOf w t)))) (replicate THREADS 0) THREADS
 
 abbrev pub found : Option (List ℕ) → Bool
 found none = false
@@ -42,11 +43,11 @@ anyBack rows t [] = false
 anyBack rows t (u ∷ us) = cond (found (findPath rows u t)) true (anyBack rows t us)
 
 abbrev pub stuckIn : List ℕ → ℕ → Bool
-stuckIn rows t = anyBack rows t (upward 32 (row rows t))
+stuckIn rows t = anyBack rows t (upward THREADS (row rows t))
 
 -- how many threads are stuck, and how many edges are stored
 unfoldable pub stuckCount : Tables → ℕ
-stuckCount x = length (those (stuckIn (trueWaits (x .«rwlock_readers») (x .waits))) 32)
+stuckCount x = length (those (stuckIn (trueWaits (x .«rwlock_readers») (x .waits))) THREADS)
 
 unfoldable pub edgeCount : List ℕ → ℕ
-edgeCount rows = each (λ n t. n + ones (row rows t)) 0 32
+edgeCount rows = each (λ n t. n + ones (row rows t)) 0 THREADS

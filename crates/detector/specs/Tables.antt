@@ -2,6 +2,9 @@
 use mathlib.Core.List.{List, []}
 use Prim.Native.Nat.{ℕ}
 use lib.ListN.{getD, set, replicate}
+use Rattle.sets.specs.Limits.{THREADS}
+use Rattle.detector.specs.Limits.{CONDVARS, NONE}
+use Rattle.waits.specs.Owners.{COUNTS}
 use Rattle.waits.specs.Tables as waiting
 use Rattle.waits.specs.Report.{Report, Judging}
 use Rattle.waits.specs.declared.tables.Waits.{Waits}
@@ -20,7 +23,7 @@ abbrev pub noPair : Pair
 noPair = record { thread = 0; lock = 0 }
 
 abbrev pub noCvWait : CvWait
-noCvWait = record { condvar = 16; lock = 0 }
+noCvWait = record { condvar = NONE; lock = 0 }
 
 -- what a read outside the table would give
 abbrev pub blankCvWait : CvWait
@@ -31,9 +34,9 @@ abbrev pub empty : Tables
 empty =
     record {
       waits = waiting.empty;
-      «rwlock_readers» = replicate 2048 0;
-      «cv_waiters» = replicate 16 [];
-      «thread_wait_cv» = replicate 32 noCvWait;
+      «rwlock_readers» = replicate COUNTS 0;
+      «cv_waiters» = replicate CONDVARS [];
+      «thread_wait_cv» = replicate THREADS noCvWait;
       «cv_woken» = 0;
     }
 
@@ -54,10 +57,10 @@ withWaits x w =
 
 -- with other waits and other counts
 abbrev pub withCounts : Tables → Waits → List ℕ → Tables
-withCounts x w c =
+withCounts x w counts =
     record {
       waits = w;
-      «rwlock_readers» = c;
+      «rwlock_readers» = counts;
       «cv_waiters» = x .«cv_waiters»;
       «thread_wait_cv» = x .«thread_wait_cv»;
       «cv_woken» = x .«cv_woken»;

@@ -4,6 +4,9 @@ use mathlib.Core.Path.{_≡_}
 use mathlib.Core.List.{List}
 use Prim.Native.Nat.{ℕ, _<_, _^_}
 use lib.ListN.{getD, length}
+use Rattle.sets.specs.Limits.{THREADS, LOCKS}
+use Rattle.detector.specs.Limits.{CONDVARS, PLACES}
+use Rattle.waits.specs.Owners.{COUNTS}
 use Rattle.waits.specs.Tables.{intentOf, lockOf}
 use Rattle.detector.specs.Tables.{noPair, blankCvWait}
 use Rattle.detector.specs.State.{blankQueue}
@@ -18,7 +21,7 @@ pub record Table (l : List ℕ) (n max : ℕ) : Type 0 where
 
 -- 32 pairs of bytes, and a byte
 pub record TypedQueue (q : Queue) : Type 0 where
-  pub long : length (q .pairs) ≡ 32
+  pub long : length (q .pairs) ≡ PLACES
   pub threads : (k : ℕ) → getD (q .pairs) k noPair .thread < 256
   pub locks : (k : ℕ) → getD (q .pairs) k noPair .lock < 256
   pub len : q .len < 256
@@ -29,17 +32,17 @@ pub record TypedCvWait (v : CvWait) : Type 0 where
   pub lock : v .lock < 256
 
 pub record Typed (d : Detector) : Type 0 where
-  pub edges : Table (d .waits .«wait_for_graph» .edges) 32 (2 ^ 32)
-  pub incoming : Table (d .waits .«wait_for_graph» .«incoming_edges») 32 (2 ^ 32)
-  pub slots : length (d .waits .«thread_waits_for») ≡ 32
+  pub edges : Table (d .waits .«wait_for_graph» .edges) THREADS (2 ^ 32)
+  pub incoming : Table (d .waits .«wait_for_graph» .«incoming_edges») THREADS (2 ^ 32)
+  pub slots : length (d .waits .«thread_waits_for») ≡ THREADS
   pub intents : (t : ℕ) → lockOf (intentOf (d .waits) t) < 256
-  pub waiters : Table (d .waits .«lock_waiters») 64 (2 ^ 32)
-  pub holds : Table (d .waits .«thread_holds») 32 (2 ^ 64)
-  pub owners : Table (d .waits .«mutex_owners») 64 256
-  pub writers : Table (d .waits .«rwlock_writer») 64 256
+  pub waiters : Table (d .waits .«lock_waiters») LOCKS (2 ^ 32)
+  pub holds : Table (d .waits .«thread_holds») THREADS (2 ^ 64)
+  pub owners : Table (d .waits .«mutex_owners») LOCKS 256
+  pub writers : Table (d .waits .«rwlock_writer») LOCKS 256
   pub woken : d .«cv_woken» < 2 ^ 32
-  pub readers : Table (d .«rwlock_readers») 2048 256
-  pub queues : length (d .condvars .«cv_waiters») ≡ 16
-  pub places : (c : ℕ) → c < 16 → TypedQueue (getD (d .condvars .«cv_waiters») c blankQueue)
-  pub cvPlaces : length (d .condvars .«thread_wait_cv») ≡ 32
+  pub readers : Table (d .«rwlock_readers») COUNTS 256
+  pub queues : length (d .condvars .«cv_waiters») ≡ CONDVARS
+  pub places : (c : ℕ) → c < CONDVARS → TypedQueue (getD (d .condvars .«cv_waiters») c blankQueue)
+  pub cvPlaces : length (d .condvars .«thread_wait_cv») ≡ THREADS
   pub cvWaits : (t : ℕ) → TypedCvWait (getD (d .condvars .«thread_wait_cv») t blankCvWait)

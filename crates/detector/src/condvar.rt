@@ -3,6 +3,8 @@ ghost use mathlib.Core.Path.{_≡_};
 ghost use mathlib.Core.List.{List};
 ghost use Prim.Native.Nat.{ℕ, _+_, _<_, _≤_};
 ghost use lib.ListN.{length, getD};
+ghost use Rattle.sets.specs.Limits.{THREADS, LOCKS};
+ghost use Rattle.detector.specs.Limits.{CONDVARS, PLACES};
 ghost use Rattle.waits.specs.Tables.{InRange};
 ghost use Rattle.waits.specs.Report.{reportBytes};
 ghost use Rattle.detector.specs.Condvar.{Woken, isPair, wake, wakeAll, forget, leave, createCondvar, destroyCondvar, beginWait, notifyOne, notifyAll, endWait};
@@ -15,6 +17,7 @@ use crate::state::CvWait;
 use crate::state::Detector;
 use crate::state::Pair;
 use crate::state::Queue;
+use sets::THREADS;
 use sets::threads;
 use waits::WaitMode;
 use waits::Waits;
@@ -31,14 +34,14 @@ fn empty_queue() -> Queue
     ensures { λ r. ⌜ r ≡ emptyQueue ⌝ }
 {
     Queue {
-        pairs: [Pair { thread: 0, lock: 0 }; 32],
+        pairs: [Pair { thread: 0, lock: 0 }; Queue::PLACES],
         len: 0,
     }
 }
 
 // One pair treated: woken, and where its lock has an owner the attempt that follows.
-fn wake_one(a: Awake, counts: &[u8; 2048], p: Pair, buf: &mut [u8]) -> Awake
-    requires { ⌜ InRange (a .waits) × (p .thread < 32) × (p .lock < 64) × (a .used + reportBytes ≤ length (now buf)) × (a .reports < 32) ⌝ }
+fn wake_one(a: Awake, counts: &[u8; Waits::COUNTS], p: Pair, buf: &mut [u8]) -> Awake
+    requires { ⌜ InRange (a .waits) × (p .thread < THREADS) × (p .lock < LOCKS) × (a .used + reportBytes ≤ length (now buf)) × (a .reports < PLACES) ⌝ }
     ensures { λ r. ⌜ ((b : List ℕ) (s : Woken) → Wakes a b (now (buf .entry)) s → Wakes r b (now (buf .exit)) (wake (now (counts .entry)) s p)) × (r .used ≤ a .used + reportBytes) × (r .reports ≤ a .reports + 1) × InRange (r .waits) ⌝ }
 {
     let w = a.waits;
@@ -47,7 +50,7 @@ fn wake_one(a: Awake, counts: &[u8; 2048], p: Pair, buf: &mut [u8]) -> Awake
     let t = p.thread as usize;
     let l = p.lock as usize;
     let woken = threads::with(a.woken, t);
-    if w.mutex_owners[l] < 32 {
+    if w.mutex_owners[l] < Waits::NOBODY {
         let d = w.attempt(counts, t, l, WaitMode::Mutex, buf, from);
         let waits = d.waits;
         return Awake {
@@ -65,7 +68,7 @@ fn wake_one(a: Awake, counts: &[u8; 2048], p: Pair, buf: &mut [u8]) -> Awake
     }
 }
 
-fn wake_all(a0: Awake, counts: &[u8; 2048], q: Queue, buf: &mut [u8]) -> Awake
+fn wake_all(a0: Awake, counts: &[u8; Waits::COUNTS], q: Queue, buf: &mut [u8]) -> Awake
     requires { ⌜ InRange (a0 .waits) × Queued q × (a0 .used ≡ 0) × (a0 .reports ≡ 0) × (bufferBytes ≤ length (now buf)) ⌝ }
     ensures { λ r. ⌜ ((s : Woken) → Wakes a0 (now (buf .entry)) (now (buf .entry)) s → Wakes r (now (buf .entry)) (now (buf .exit)) (wakeAll (now (counts .entry)) s (pairsOf q))) ⌝ }
 {
@@ -129,16 +132,16 @@ fn is_pair(p: Pair, t: usize, l: usize) -> bool
 }
 
 // No thread waits for c.
-fn forgotten(all: [CvWait; 32], c: usize) -> [CvWait; 32]
+fn forgotten(all: [CvWait; THREADS], c: usize) -> [CvWait; THREADS]
     ensures { λ r. ⌜ r ≡ forget all c ⌝ }
 {
     let mut out = all;
     let mut t = 0;
-    while t < 32 {
+    while t < THREADS {
         let v = all[t];
         if v.condvar as usize == c {
             out[t] = CvWait {
-                condvar: 16,
+                condvar: CvWait::NONE,
                 lock: 0,
             };
         }
@@ -150,7 +153,7 @@ fn forgotten(all: [CvWait; 32], c: usize) -> [CvWait; 32]
 impl Detector {
     // cn
     pub fn create_condvar(mut self, c: usize) -> Done
-        requires { ⌜ Valid self × (c < 16) ⌝ }
+        requires { ⌜ Valid self × (c < CONDVARS) ⌝ }
         ensures { λ r. ⌜ ((b : List ℕ) → Does r b b (createCondvar (tables self) c)) ⌝ }
     {
         let mut condvars = self.condvars;
@@ -164,7 +167,7 @@ impl Detector {
 
     // cd
     pub fn destroy_condvar(mut self, c: usize) -> Done
-        requires { ⌜ Valid self × (c < 16) ⌝ }
+        requires { ⌜ Valid self × (c < CONDVARS) ⌝ }
         ensures { λ r. ⌜ ((b : List ℕ) → Does r b b (destroyCondvar (tables self) c)) ⌝ }
     {
         let mut condvars = self.condvars;
@@ -181,7 +184,7 @@ impl Detector {
 
     // cb
     pub fn begin_wait(mut self, t: usize, c: usize, l: usize) -> Done
-        requires { ⌜ Valid self × (t < 32) × (c < 16) × (l < 64) × (getD (self .condvars .«cv_waiters») c blankQueue .len < 32) ⌝ }
+        requires { ⌜ Valid self × (t < THREADS) × (c < CONDVARS) × (l < LOCKS) × (getD (self .condvars .«cv_waiters») c blankQueue .len < PLACES) ⌝ }
         ensures { λ r. ⌜ ((b : List ℕ) → Does r b b (beginWait (tables self) t c l)) ⌝ }
     {
         let mut condvars = self.condvars;
@@ -206,7 +209,7 @@ impl Detector {
 
     // c1
     pub fn notify_one(mut self, c: usize, buf: &mut [u8]) -> Done
-        requires { ⌜ Valid self × (c < 16) × (bufferBytes ≤ length (now buf)) ⌝ }
+        requires { ⌜ Valid self × (c < CONDVARS) × (bufferBytes ≤ length (now buf)) ⌝ }
         ensures { λ r. ⌜ Does r (now (buf .entry)) (now (buf .exit)) (notifyOne (tables self) c) ⌝ }
     {
         let mut condvars = self.condvars;
@@ -241,7 +244,7 @@ impl Detector {
 
     // ca
     pub fn notify_all(mut self, c: usize, buf: &mut [u8]) -> Done
-        requires { ⌜ Valid self × (c < 16) × (bufferBytes ≤ length (now buf)) ⌝ }
+        requires { ⌜ Valid self × (c < CONDVARS) × (bufferBytes ≤ length (now buf)) ⌝ }
         ensures { λ r. ⌜ Does r (now (buf .entry)) (now (buf .exit)) (notifyAll (tables self) c) ⌝ }
     {
         let mut condvars = self.condvars;
@@ -268,14 +271,14 @@ impl Detector {
 
     // ce
     pub fn end_wait(mut self, t: usize, c: usize, l: usize) -> Done
-        requires { ⌜ Valid self × (t < 32) × (c < 16) × (l < 64) ⌝ }
+        requires { ⌜ Valid self × (t < THREADS) × (c < CONDVARS) × (l < LOCKS) ⌝ }
         ensures { λ r. ⌜ ((b : List ℕ) → Does r b b (endWait (tables self) t c l)) ⌝ }
     {
         let mut condvars = self.condvars;
         let q = condvars.cv_waiters[c];
         condvars.cv_waiters[c] = left_by(q, t, l);
         condvars.thread_wait_cv[t] = CvWait {
-            condvar: 16,
+            condvar: CvWait::NONE,
             lock: 0,
         };
         let w0 = self.waits;

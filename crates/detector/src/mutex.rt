@@ -3,6 +3,7 @@ ghost use mathlib.Core.Path.{_≡_};
 ghost use mathlib.Core.List.{List};
 ghost use Prim.Native.Nat.{ℕ, _<_, _≤_};
 ghost use lib.ListN.{length};
+ghost use Rattle.sets.specs.Limits.{THREADS, LOCKS, NOBODY};
 ghost use Rattle.waits.specs.Tables.{InRange, own};
 ghost use Rattle.waits.specs.Validate.{names};
 ghost use Rattle.detector.specs.Mutex.{gain, clearNaming, purge, mutexAttempt, completeAcquire, releaseMutex, destroyMutex};
@@ -12,6 +13,8 @@ ghost use Rattle.detector.specs.Promises.{Does};
 ghost use Rattle.detector.specs.Code.{blocked, hinted};
 use crate::reply::Done;
 use crate::state::Detector;
+use sets::NOBODY;
+use sets::THREADS;
 use sets::locks;
 use waits::Awaits;
 use waits::Outcome;
@@ -19,9 +22,9 @@ use waits::Slot;
 use waits::WaitMode;
 use waits::Waits;
 
-fn owned(mut w: Waits, l: usize, t: usize) -> Waits
-    requires { ⌜ InRange w × (l < 64) × (t ≤ 32) ⌝ }
-    ensures { λ r. ⌜ (r ≡ own w l t) × InRange r ⌝ }
+fn owned(mut w: Waits, t: usize, l: usize) -> Waits
+    requires { ⌜ InRange w × (l < LOCKS) × (t ≤ NOBODY) ⌝ }
+    ensures { λ r. ⌜ (r ≡ own w t l) × InRange r ⌝ }
 {
     w.mutex_owners[l] = t as u8;
     w
@@ -29,7 +32,7 @@ fn owned(mut w: Waits, l: usize, t: usize) -> Waits
 
 // l joins t's holds, and t waits for nothing.
 pub(crate) fn gained(mut w: Waits, t: usize, l: usize) -> Waits
-    requires { ⌜ InRange w × (t < 32) × (l < 64) ⌝ }
+    requires { ⌜ InRange w × (t < THREADS) × (l < LOCKS) ⌝ }
     ensures { λ r. ⌜ (r ≡ gain w t l) × InRange r ⌝ }
 {
     let holds = w.thread_holds[t];
@@ -49,8 +52,8 @@ pub(crate) fn was_blocked(o: Outcome) -> bool
 
 // The owner, or the writer, after a hint. A number and not the tables, so that the compiler copies none for an outcome.
 pub(crate) fn hinted(before: usize, o: Outcome) -> usize
-    requires { ⌜ (before ≤ 32) × (hintOf o < 32) ⌝ }
-    ensures { λ r. ⌜ (r ≡ hinted before o) × (r ≤ 32) ⌝ }
+    requires { ⌜ (before ≤ NOBODY) × (hintOf o < THREADS) ⌝ }
+    ensures { λ r. ⌜ (r ≡ hinted before o) × (r ≤ NOBODY) ⌝ }
 {
     match o {
         Outcome::Took => before,
@@ -78,7 +81,7 @@ fn cleared(w0: Waits, l: usize) -> Waits
     let slots = w0.thread_waits_for;
     let mut w = w0;
     let mut t = 0;
-    while t < 32 {
+    while t < THREADS {
         let s = slots[t];
         if awaits(s, l) {
             w = w.clear_wait_intent(t);
@@ -90,12 +93,12 @@ fn cleared(w0: Waits, l: usize) -> Waits
 
 // l leaves all holds and loses its waiters.
 pub(crate) fn purged(w0: Waits, l: usize) -> Waits
-    requires { ⌜ InRange w0 × (l < 64) ⌝ }
+    requires { ⌜ InRange w0 × (l < LOCKS) ⌝ }
     ensures { λ r. ⌜ (r ≡ purge w0 l) × InRange r ⌝ }
 {
     let mut w = w0;
     let mut t = 0;
-    while t < 32 {
+    while t < THREADS {
         let holds = w.thread_holds[t];
         w.thread_holds[t] = locks::without(holds, l);
         t += 1;
@@ -107,7 +110,7 @@ pub(crate) fn purged(w0: Waits, l: usize) -> Waits
 impl Detector {
     // ma
     pub fn acquire_slow_with_recheck(self, t: usize, l: usize, o: Outcome, buf: &mut [u8]) -> Done
-        requires { ⌜ Valid self × (t < 32) × (l < 64) × (hintOf o < 32) × (bufferBytes ≤ length (now buf)) ⌝ }
+        requires { ⌜ Valid self × (t < THREADS) × (l < LOCKS) × (hintOf o < THREADS) × (bufferBytes ≤ length (now buf)) ⌝ }
         ensures { λ r. ⌜ Does r (now (buf .entry)) (now (buf .exit)) (mutexAttempt (tables self) t l o) ⌝ }
     {
         let w0 = self.waits;
@@ -115,12 +118,12 @@ impl Detector {
             let owners = w0.mutex_owners;
             let before = owners[l] as usize;
             let h = hinted(before, o);
-            let w = owned(w0, l, h);
+            let w = owned(w0, h, l);
             let counts = self.counts();
             let d = w.attempt(&counts, t, l, WaitMode::Mutex, buf, 0);
             return self.with_judged(d);
         }
-        let a = owned(w0, l, t);
+        let a = owned(w0, t, l);
         let w = gained(a, t, l);
         let mut d = w.quiet(0);
         if w.lock_waiters[l] != 0 {
@@ -132,11 +135,11 @@ impl Detector {
 
     // mc
     pub fn complete_acquire(self, t: usize, l: usize, buf: &mut [u8]) -> Done
-        requires { ⌜ Valid self × (t < 32) × (l < 64) × (bufferBytes ≤ length (now buf)) ⌝ }
+        requires { ⌜ Valid self × (t < THREADS) × (l < LOCKS) × (bufferBytes ≤ length (now buf)) ⌝ }
         ensures { λ r. ⌜ Does r (now (buf .entry)) (now (buf .exit)) (completeAcquire (tables self) t l) ⌝ }
     {
         let w0 = self.waits;
-        let a = owned(w0, l, t);
+        let a = owned(w0, t, l);
         let w = gained(a, t, l);
         let mut d = w.quiet(0);
         if w.lock_waiters[l] != 0 {
@@ -148,12 +151,12 @@ impl Detector {
 
     // mr
     pub fn release_mutex(self, t: usize, l: usize) -> Done
-        requires { ⌜ Valid self × (t < 32) × (l < 64) ⌝ }
+        requires { ⌜ Valid self × (t < THREADS) × (l < LOCKS) ⌝ }
         ensures { λ r. ⌜ ((b : List ℕ) → Does r b b (releaseMutex (tables self) t l)) ⌝ }
     {
         let mut w = self.waits;
         if w.mutex_owners[l] as usize == t {
-            w.mutex_owners[l] = 32;
+            w.mutex_owners[l] = Waits::NOBODY;
         }
         let holds = w.thread_holds[t];
         w.thread_holds[t] = locks::without(holds, l);
@@ -168,11 +171,11 @@ impl Detector {
 
     // md
     pub fn destroy_mutex(self, l: usize) -> Done
-        requires { ⌜ Valid self × (l < 64) ⌝ }
+        requires { ⌜ Valid self × (l < LOCKS) ⌝ }
         ensures { λ r. ⌜ ((b : List ℕ) → Does r b b (destroyMutex (tables self) l)) ⌝ }
     {
         let w0 = self.waits;
-        let a = owned(w0, l, 32);
+        let a = owned(w0, NOBODY, l);
         let b = cleared(a, l);
         let w = purged(b, l);
         self.with_waits(w, 0)

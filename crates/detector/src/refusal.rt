@@ -1,10 +1,13 @@
 // The refusals of an event: 3 to 6 by its numbers and the buffer, 7 and 8 by what is full; 0 for none.
 ghost use mathlib.Core.Path.{_≡_};
 ghost use Prim.Native.Nat.{_<_};
+ghost use Rattle.sets.specs.Limits.{THREADS, LOCKS};
+ghost use Rattle.detector.specs.Limits.{CONDVARS};
 ghost use Rattle.detector.specs.Refusals.{hintOf, numbers, numbersOf, outside, Inside, fullQueue, fullCount, fullAttempt, fullTry, full, refusal};
 ghost use Rattle.detector.specs.State.{tables, Valid};
 use crate::event::Event;
 use crate::state::Detector;
+use crate::state::Queue;
 use waits::Outcome;
 use waits::Tried;
 use waits::place;
@@ -76,23 +79,23 @@ fn numbered(e: Event, room: usize) -> u8
 
 impl Detector {
     fn full_queue(self, c: usize) -> u8
-        requires { ⌜ Valid self × (c < 16) ⌝ }
+        requires { ⌜ Valid self × (c < CONDVARS) ⌝ }
         ensures { λ r. ⌜ r ≡ fullQueue (tables self) c ⌝ }
     {
         let condvars = self.condvars;
         let q = condvars.cv_waiters[c];
-        if q.len < 32 {
+        if q.len < Queue::FULL {
             return 0;
         }
         7
     }
 
     fn full_count(self, t: usize, l: usize) -> u8
-        requires { ⌜ (t < 32) × (l < 64) ⌝ }
+        requires { ⌜ (t < THREADS) × (l < LOCKS) ⌝ }
         ensures { λ r. ⌜ r ≡ fullCount (tables self) t l ⌝ }
     {
         let counts = self.rwlock_readers;
-        let at = place(l, t);
+        let at = place(t, l);
         if counts[at] == 255 {
             return 8;
         }
@@ -100,7 +103,7 @@ impl Detector {
     }
 
     fn full_attempt(self, t: usize, l: usize, o: Outcome) -> u8
-        requires { ⌜ (t < 32) × (l < 64) ⌝ }
+        requires { ⌜ (t < THREADS) × (l < LOCKS) ⌝ }
         ensures { λ r. ⌜ r ≡ fullAttempt (tables self) t l o ⌝ }
     {
         match o {
@@ -111,7 +114,7 @@ impl Detector {
     }
 
     fn full_try(self, t: usize, l: usize, o: Tried) -> u8
-        requires { ⌜ (t < 32) × (l < 64) ⌝ }
+        requires { ⌜ (t < THREADS) × (l < LOCKS) ⌝ }
         ensures { λ r. ⌜ r ≡ fullTry (tables self) t l o ⌝ }
     {
         match o {

@@ -3,6 +3,7 @@ ghost use mathlib.Core.Path.{_≡_};
 ghost use mathlib.Core.List.{List};
 ghost use Prim.Native.Nat.{ℕ, _<_, _≤_};
 ghost use lib.ListN.{length};
+ghost use Rattle.sets.specs.Limits.{THREADS, LOCKS, NOBODY};
 ghost use Rattle.waits.specs.Tables.{InRange, withGraph, write};
 ghost use Rattle.waits.specs.Owners.{countOf};
 ghost use Rattle.detector.specs.RwLock.{countUp, countDown, noReaders, writeReleased, loosen, readAttempt, completeRead, readTry, releaseRead, writeAttempt, completeWrite, releaseWrite, destroyRwLock};
@@ -16,6 +17,8 @@ use crate::mutex::was_blocked;
 use crate::reply::Done;
 use crate::state::Detector;
 use graph::WaitForGraph;
+use sets::NOBODY;
+use sets::THREADS;
 use sets::locks;
 use waits::Outcome;
 use waits::Tried;
@@ -23,20 +26,20 @@ use waits::WaitMode;
 use waits::Waits;
 use waits::place;
 
-fn written_by(mut w: Waits, l: usize, t: usize) -> Waits
-    requires { ⌜ InRange w × (l < 64) × (t ≤ 32) ⌝ }
-    ensures { λ r. ⌜ (r ≡ write w l t) × InRange r ⌝ }
+fn written_by(mut w: Waits, t: usize, l: usize) -> Waits
+    requires { ⌜ InRange w × (l < LOCKS) × (t ≤ NOBODY) ⌝ }
+    ensures { λ r. ⌜ (r ≡ write w t l) × InRange r ⌝ }
 {
     w.rwlock_writer[l] = t as u8;
     w
 }
 
 fn write_given_up(mut w: Waits, t: usize, l: usize) -> Waits
-    requires { ⌜ InRange w × (t < 32) × (l < 64) ⌝ }
+    requires { ⌜ InRange w × (t < THREADS) × (l < LOCKS) ⌝ }
     ensures { λ r. ⌜ (r ≡ writeReleased w t l) × InRange r ⌝ }
 {
     if w.rwlock_writer[l] as usize == t {
-        w.rwlock_writer[l] = 32;
+        w.rwlock_writer[l] = Waits::NOBODY;
     }
     let holds = w.thread_holds[t];
     w.thread_holds[t] = locks::without(holds, l);
@@ -45,7 +48,7 @@ fn write_given_up(mut w: Waits, t: usize, l: usize) -> Waits
 
 // The graph without the edges from l's waiters to t.
 fn loosened(w: Waits, t: usize, l: usize) -> WaitForGraph
-    requires { ⌜ (t < 32) × (l < 64) ⌝ }
+    requires { ⌜ (t < THREADS) × (l < LOCKS) ⌝ }
     ensures { λ r. ⌜ withGraph w r ≡ loosen w t l ⌝ }
 {
     let all = w.lock_waiters;
@@ -57,23 +60,23 @@ fn loosened(w: Waits, t: usize, l: usize) -> WaitForGraph
     g.remove_edges_to(waiters, t)
 }
 
-fn counted_up(counts: [u8; 2048], t: usize, l: usize) -> [u8; 2048]
-    requires { ⌜ (t < 32) × (l < 64) × (countOf counts l t ≡ 255 → ⊥) ⌝ }
-    ensures { λ r. ⌜ r ≡ countUp counts l t ⌝ }
+fn counted_up(counts: [u8; Waits::COUNTS], t: usize, l: usize) -> [u8; Waits::COUNTS]
+    requires { ⌜ (t < THREADS) × (l < LOCKS) × (countOf counts t l ≡ 255 → ⊥) ⌝ }
+    ensures { λ r. ⌜ r ≡ countUp counts t l ⌝ }
 {
     let mut r = counts;
-    let at = place(l, t);
+    let at = place(t, l);
     let n = r[at];
     r[at] = n + 1;
     r
 }
 
-fn counted_down(counts: [u8; 2048], t: usize, l: usize) -> [u8; 2048]
-    requires { ⌜ (t < 32) × (l < 64) ⌝ }
-    ensures { λ r. ⌜ r ≡ countDown counts l t ⌝ }
+fn counted_down(counts: [u8; Waits::COUNTS], t: usize, l: usize) -> [u8; Waits::COUNTS]
+    requires { ⌜ (t < THREADS) × (l < LOCKS) ⌝ }
+    ensures { λ r. ⌜ r ≡ countDown counts t l ⌝ }
 {
     let mut r = counts;
-    let at = place(l, t);
+    let at = place(t, l);
     let n = r[at];
     if 0 < n {
         r[at] = n - 1;
@@ -81,14 +84,14 @@ fn counted_down(counts: [u8; 2048], t: usize, l: usize) -> [u8; 2048]
     r
 }
 
-fn no_readers(counts: [u8; 2048], l: usize) -> [u8; 2048]
-    requires { ⌜ l < 64 ⌝ }
+fn no_readers(counts: [u8; Waits::COUNTS], l: usize) -> [u8; Waits::COUNTS]
+    requires { ⌜ l < LOCKS ⌝ }
     ensures { λ r. ⌜ r ≡ noReaders counts l ⌝ }
 {
     let mut r = counts;
     let mut t = 0;
-    while t < 32 {
-        let at = place(l, t);
+    while t < THREADS {
+        let at = place(t, l);
         r[at] = 0;
         t += 1;
     }
@@ -104,7 +107,7 @@ impl Detector {
         o: Outcome,
         buf: &mut [u8],
     ) -> Done
-        requires { ⌜ Valid self × (t < 32) × (l < 64) × (hintOf o < 32) × (fullAttempt (tables self) t l o ≡ 0) × (bufferBytes ≤ length (now buf)) ⌝ }
+        requires { ⌜ Valid self × (t < THREADS) × (l < LOCKS) × (hintOf o < THREADS) × (fullAttempt (tables self) t l o ≡ 0) × (bufferBytes ≤ length (now buf)) ⌝ }
         ensures { λ r. ⌜ Does r (now (buf .entry)) (now (buf .exit)) (readAttempt (tables self) t l o) ⌝ }
     {
         let w0 = self.waits;
@@ -112,7 +115,7 @@ impl Detector {
             let writers = w0.rwlock_writer;
             let before = writers[l] as usize;
             let h = hinted(before, o);
-            let w = written_by(w0, l, h);
+            let w = written_by(w0, h, l);
             let counts = self.counts();
             let d = w.attempt(&counts, t, l, WaitMode::RwRead, buf, 0);
             return self.with_judged(d);
@@ -125,7 +128,7 @@ impl Detector {
 
     // rc
     pub fn complete_read(self, t: usize, l: usize) -> Done
-        requires { ⌜ Valid self × (t < 32) × (l < 64) × (countOf (self .«rwlock_readers») l t ≡ 255 → ⊥) ⌝ }
+        requires { ⌜ Valid self × (t < THREADS) × (l < LOCKS) × (countOf (self .«rwlock_readers») t l ≡ 255 → ⊥) ⌝ }
         ensures { λ r. ⌜ ((b : List ℕ) → Does r b b (completeRead (tables self) t l)) ⌝ }
     {
         let w0 = self.waits;
@@ -137,7 +140,7 @@ impl Detector {
 
     // rt
     pub fn try_read_nonblocking(self, t: usize, l: usize, o: Tried) -> Done
-        requires { ⌜ Valid self × (t < 32) × (l < 64) × (fullTry (tables self) t l o ≡ 0) ⌝ }
+        requires { ⌜ Valid self × (t < THREADS) × (l < LOCKS) × (fullTry (tables self) t l o ≡ 0) ⌝ }
         ensures { λ r. ⌜ ((b : List ℕ) → Does r b b (readTry (tables self) t l o)) ⌝ }
     {
         let mut w = self.waits;
@@ -154,13 +157,13 @@ impl Detector {
 
     // rr
     pub fn release_read(self, t: usize, l: usize) -> Done
-        requires { ⌜ Valid self × (t < 32) × (l < 64) ⌝ }
+        requires { ⌜ Valid self × (t < THREADS) × (l < LOCKS) ⌝ }
         ensures { λ r. ⌜ ((b : List ℕ) → Does r b b (releaseRead (tables self) t l)) ⌝ }
     {
         let counts = self.counts();
         let fewer = counted_down(counts, t, l);
         let mut w = self.waits;
-        let at = place(l, t);
+        let at = place(t, l);
         if fewer[at] == 0 {
             let graph = loosened(w, t, l);
             w.wait_for_graph = graph;
@@ -176,7 +179,7 @@ impl Detector {
         o: Outcome,
         buf: &mut [u8],
     ) -> Done
-        requires { ⌜ Valid self × (t < 32) × (l < 64) × (hintOf o < 32) × (bufferBytes ≤ length (now buf)) ⌝ }
+        requires { ⌜ Valid self × (t < THREADS) × (l < LOCKS) × (hintOf o < THREADS) × (bufferBytes ≤ length (now buf)) ⌝ }
         ensures { λ r. ⌜ Does r (now (buf .entry)) (now (buf .exit)) (writeAttempt (tables self) t l o) ⌝ }
     {
         let w0 = self.waits;
@@ -184,12 +187,12 @@ impl Detector {
             let writers = w0.rwlock_writer;
             let before = writers[l] as usize;
             let h = hinted(before, o);
-            let w = written_by(w0, l, h);
+            let w = written_by(w0, h, l);
             let counts = self.counts();
             let d = w.attempt(&counts, t, l, WaitMode::RwWrite, buf, 0);
             return self.with_judged(d);
         }
-        let a = written_by(w0, l, t);
+        let a = written_by(w0, t, l);
         let w = gained(a, t, l);
         let mut d = w.quiet(0);
         if w.lock_waiters[l] != 0 {
@@ -201,11 +204,11 @@ impl Detector {
 
     // wc
     pub fn complete_write(self, t: usize, l: usize, buf: &mut [u8]) -> Done
-        requires { ⌜ Valid self × (t < 32) × (l < 64) × (bufferBytes ≤ length (now buf)) ⌝ }
+        requires { ⌜ Valid self × (t < THREADS) × (l < LOCKS) × (bufferBytes ≤ length (now buf)) ⌝ }
         ensures { λ r. ⌜ Does r (now (buf .entry)) (now (buf .exit)) (completeWrite (tables self) t l) ⌝ }
     {
         let w0 = self.waits;
-        let a = written_by(w0, l, t);
+        let a = written_by(w0, t, l);
         let w = gained(a, t, l);
         let mut d = w.quiet(0);
         if w.lock_waiters[l] != 0 {
@@ -217,7 +220,7 @@ impl Detector {
 
     // wr
     pub fn release_write(self, t: usize, l: usize) -> Done
-        requires { ⌜ Valid self × (t < 32) × (l < 64) ⌝ }
+        requires { ⌜ Valid self × (t < THREADS) × (l < LOCKS) ⌝ }
         ensures { λ r. ⌜ ((b : List ℕ) → Does r b b (releaseWrite (tables self) t l)) ⌝ }
     {
         let w0 = self.waits;
@@ -229,13 +232,13 @@ impl Detector {
 
     // rd
     pub fn destroy_rwlock(self, l: usize) -> Done
-        requires { ⌜ Valid self × (l < 64) ⌝ }
+        requires { ⌜ Valid self × (l < LOCKS) ⌝ }
         ensures { λ r. ⌜ ((b : List ℕ) → Does r b b (destroyRwLock (tables self) l)) ⌝ }
     {
         let counts = self.counts();
         let none = no_readers(counts, l);
         let w0 = self.waits;
-        let a = written_by(w0, l, 32);
+        let a = written_by(w0, NOBODY, l);
         let w = purged(a, l);
         self.with_counts(w, none)
     }

@@ -4,6 +4,8 @@ ghost use Rattle.detector.specs.Tables as rules;
 ghost use Rattle.detector.specs.State.{tables, Valid};
 ghost use Rattle.detector.specs.Code.{putWaits, putCounts};
 use crate::reply::Done;
+use sets::LOCKS;
+use sets::THREADS;
 use waits::Judged;
 use waits::Waits;
 
@@ -14,7 +16,7 @@ pub struct Pair {
 
 // Pairs in order; the places behind the end hold 0.
 pub struct Queue {
-    pub pairs: [Pair; 32],
+    pub pairs: [Pair; Queue::PLACES],
     pub len: u8,
 }
 
@@ -26,8 +28,8 @@ pub struct CvWait {
 
 // The tables of the condition variables. All bytes: a wider number here would have the compiler copy them with every event.
 pub struct Condvars {
-    pub cv_waiters: [Queue; 16],
-    pub thread_wait_cv: [CvWait; 32],
+    pub cv_waiters: [Queue; Detector::CONDVARS],
+    pub thread_wait_cv: [CvWait; THREADS],
 }
 
 // `waits::place` says where a count stands. The counts stand beside the condition variables and `cv_woken` between them
@@ -35,18 +37,29 @@ pub struct Condvars {
 pub struct Detector {
     pub waits: Waits,
     pub cv_woken: u32,
-    pub rwlock_readers: [u8; 2048],
+    pub rwlock_readers: [u8; Waits::COUNTS],
     pub condvars: Condvars,
 }
 
-impl Detector {
-    pub const THREADS: usize = 32;
+impl Queue {
+    pub const PLACES: usize = 32;
+    // The length of a full queue.
+    pub const FULL: u8 = Queue::PLACES as u8;
+}
 
-    pub const LOCKS: usize = 64;
+impl CvWait {
+    // The number that stands for no condvar.
+    pub const NONE: u8 = Detector::CONDVARS as u8;
+}
+
+impl Detector {
+    pub const THREADS: usize = THREADS;
+
+    pub const LOCKS: usize = LOCKS;
 
     pub const CONDVARS: usize = 16;
     // Room for 32 of the longest reports.
-    pub const BUFFER_BYTES: usize = 32 * Waits::REPORT_BYTES;
+    pub const BUFFER_BYTES: usize = Queue::PLACES * Waits::REPORT_BYTES;
 
     pub fn new() -> Detector
         ensures { λ r. ⌜ (tables r ≡ rules.empty) × Valid r ⌝ }
@@ -55,16 +68,16 @@ impl Detector {
         Detector {
             waits,
             cv_woken: 0,
-            rwlock_readers: [0u8; 2048],
+            rwlock_readers: [0u8; Waits::COUNTS],
             condvars: Condvars {
                 cv_waiters: [Queue {
-                    pairs: [Pair { thread: 0, lock: 0 }; 32],
+                    pairs: [Pair { thread: 0, lock: 0 }; Queue::PLACES],
                     len: 0,
-                }; 16],
+                }; Detector::CONDVARS],
                 thread_wait_cv: [CvWait {
-                    condvar: 16,
+                    condvar: CvWait::NONE,
                     lock: 0,
-                }; 32],
+                }; THREADS],
             },
         }
     }
@@ -92,14 +105,14 @@ impl Detector {
         self.with_waits(w, d.reports)
     }
 
-    pub(crate) fn counts(self) -> [u8; 2048]
+    pub(crate) fn counts(self) -> [u8; Waits::COUNTS]
         ensures { λ r. ⌜ r ≡ self .«rwlock_readers» ⌝ }
     {
         self.rwlock_readers
     }
 
     // The state with other waits and other counts.
-    pub(crate) fn with_counts(self, waits: Waits, rwlock_readers: [u8; 2048]) -> Done
+    pub(crate) fn with_counts(self, waits: Waits, rwlock_readers: [u8; Waits::COUNTS]) -> Done
         ensures { λ r. ⌜ r ≡ putCounts self waits «rwlock_readers» ⌝ }
     {
         let cv_woken = self.cv_woken;

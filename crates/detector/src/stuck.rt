@@ -2,6 +2,7 @@
 ghost use mathlib.Core.Path.{_≡_};
 ghost use Prim.Native.Nat.{_<_};
 ghost use lib.ListN.{length};
+ghost use Rattle.sets.specs.Limits.{THREADS};
 ghost use Rattle.sets.specs.Sets.{upward};
 ghost use Rattle.sets.specs.Below.{those};
 ghost use Rattle.graph.specs.Search.{findPath};
@@ -14,13 +15,14 @@ use crate::reply::Count;
 use crate::state::Detector;
 use graph::Way;
 use graph::find_path;
+use sets::THREADS;
 use sets::threads;
 use waits::Awaits;
 use waits::Waits;
 
 // The threads for which t truly waits.
-fn blocking_mask(w: Waits, counts: &[u8; 2048], t: usize) -> u32
-    requires { ⌜ InRange w × (t < 32) ⌝ }
+fn blocking_mask(w: Waits, counts: &[u8; Waits::COUNTS], t: usize) -> u32
+    requires { ⌜ InRange w × (t < THREADS) ⌝ }
     ensures { λ r. ⌜ r ≡ maskOf (blocking (now (counts .entry)) w (intentOf w t)) ⌝ }
 {
     let slot = w.thread_waits_for[t];
@@ -31,19 +33,19 @@ fn blocking_mask(w: Waits, counts: &[u8; 2048], t: usize) -> u32
     let o = w.incompatible_owners(counts, i);
     let readers = o.readers;
     let last = o.last;
-    if last < 32 {
+    if last < THREADS {
         return threads::with(readers, last);
     }
     readers
 }
 
-fn rows_of(w: Waits, counts: &[u8; 2048]) -> [u32; 32]
+fn rows_of(w: Waits, counts: &[u8; Waits::COUNTS]) -> [u32; THREADS]
     requires { ⌜ InRange w ⌝ }
     ensures { λ r. ⌜ r ≡ trueWaits (now (counts .entry)) w ⌝ }
 {
-    let mut rows = [0u32; 32];
+    let mut rows = [0u32; THREADS];
     let mut t = 0;
-    while t < 32 {
+    while t < THREADS {
         rows[t] = blocking_mask(w, counts, t);
         t += 1;
     }
@@ -51,8 +53,8 @@ fn rows_of(w: Waits, counts: &[u8; 2048]) -> [u32; 32]
 }
 
 // Does a way lead from u to t?
-fn leads(rows: [u32; 32], u: usize, t: usize) -> bool
-    requires { ⌜ u < 32 ⌝ }
+fn leads(rows: [u32; THREADS], u: usize, t: usize) -> bool
+    requires { ⌜ u < THREADS ⌝ }
     ensures { λ r. ⌜ r ≡ found (findPath rows u t) ⌝ }
 {
     let s = find_path(rows, u, t);
@@ -64,8 +66,8 @@ fn leads(rows: [u32; 32], u: usize, t: usize) -> bool
 }
 
 // Does a way lead to t from a thread of the set?
-fn any_leads(rows: [u32; 32], set: u32, t: usize) -> bool
-    ensures { λ r. ⌜ r ≡ anyBack rows t (upward 32 set) ⌝ }
+fn any_leads(rows: [u32; THREADS], set: u32, t: usize) -> bool
+    ensures { λ r. ⌜ r ≡ anyBack rows t (upward THREADS set) ⌝ }
 {
     let mut left = set;
     while left != 0 {
@@ -78,19 +80,19 @@ fn any_leads(rows: [u32; 32], set: u32, t: usize) -> bool
     false
 }
 
-fn is_stuck(rows: [u32; 32], t: usize) -> bool
-    requires { ⌜ t < 32 ⌝ }
+fn is_stuck(rows: [u32; THREADS], t: usize) -> bool
+    requires { ⌜ t < THREADS ⌝ }
     ensures { λ r. ⌜ r ≡ stuckIn rows t ⌝ }
 {
     any_leads(rows, rows[t], t)
 }
 
-fn count_stuck(rows: [u32; 32]) -> usize
-    ensures { λ r. ⌜ r ≡ length (those (stuckIn rows) 32) ⌝ }
+fn count_stuck(rows: [u32; THREADS]) -> usize
+    ensures { λ r. ⌜ r ≡ length (those (stuckIn rows) THREADS) ⌝ }
 {
     let mut n: usize = 0;
     let mut t = 0;
-    while t < 32 {
+    while t < THREADS {
         if is_stuck(rows, t) {
             n += 1;
         }
@@ -99,12 +101,12 @@ fn count_stuck(rows: [u32; 32]) -> usize
     n
 }
 
-fn count_edges(rows: [u32; 32]) -> usize
+fn count_edges(rows: [u32; THREADS]) -> usize
     ensures { λ r. ⌜ r ≡ edgeCount rows ⌝ }
 {
     let mut n: usize = 0;
     let mut t = 0;
-    while t < 32 {
+    while t < THREADS {
         n += u32::count_ones(rows[t]) as usize;
         t += 1;
     }
@@ -113,7 +115,7 @@ fn count_edges(rows: [u32; 32]) -> usize
 
 impl Detector {
     // For each thread, those for which it truly waits.
-    fn true_waits(self) -> [u32; 32]
+    fn true_waits(self) -> [u32; THREADS]
         requires { ⌜ Valid self ⌝ }
         ensures { λ r. ⌜ r ≡ trueWaits (self .«rwlock_readers») (self .waits) ⌝ }
     {

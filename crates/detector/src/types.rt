@@ -2,6 +2,7 @@
 // struct is known of one alone, and not of one among others: so each struct of a table is read.
 ghost use Prim.Native.Nat.{ℕ, _<_};
 ghost use lib.ListN.{getD};
+ghost use Rattle.detector.specs.Limits.{CONDVARS};
 ghost use Rattle.waits.specs.Tables.{noSlot, lockOf};
 ghost use Rattle.detector.specs.Tables.{blankCvWait};
 ghost use Rattle.detector.specs.State.{blankQueue};
@@ -10,6 +11,7 @@ use crate::state::CvWait;
 use crate::state::Detector;
 use crate::state::Pair;
 use crate::state::Queue;
+use sets::THREADS;
 use waits::Slot;
 
 fn pair(p: Pair)
@@ -20,18 +22,18 @@ fn queue(q: Queue)
     ensures { λ _. ⌜ TypedQueue q ⌝ }
 {
     let mut k = 0;
-    while k < 32 {
+    while k < Queue::PLACES {
         let p = q.pairs[k];
         pair(p);
         k += 1;
     }
 }
 
-fn queues(qs: [Queue; 16])
-    ensures { λ _. ⌜ ((c : ℕ) → c < 16 → TypedQueue (getD qs c blankQueue)) ⌝ }
+fn queues(qs: [Queue; Detector::CONDVARS])
+    ensures { λ _. ⌜ ((c : ℕ) → c < CONDVARS → TypedQueue (getD qs c blankQueue)) ⌝ }
 {
     let mut c = 0;
-    while c < 16 {
+    while c < Detector::CONDVARS {
         let q = qs[c];
         queue(q);
         c += 1;
@@ -42,11 +44,11 @@ fn cv_wait(v: CvWait)
     ensures { λ _. ⌜ TypedCvWait v ⌝ }
 {}
 
-fn cv_waits(vs: [CvWait; 32])
+fn cv_waits(vs: [CvWait; THREADS])
     ensures { λ _. ⌜ ((t : ℕ) → TypedCvWait (getD vs t blankCvWait)) ⌝ }
 {
     let mut t = 0;
-    while t < 32 {
+    while t < THREADS {
         let v = vs[t];
         cv_wait(v);
         t += 1;
@@ -54,11 +56,11 @@ fn cv_waits(vs: [CvWait; 32])
 }
 
 // The lock of an intent is what `lock` gives, a byte.
-fn intents(ss: [Slot; 32])
+fn intents(ss: [Slot; THREADS])
     ensures { λ _. ⌜ ((t : ℕ) → lockOf (getD ss t noSlot .awaits) < 256) ⌝ }
 {
     let mut t = 0;
-    while t < 32 {
+    while t < THREADS {
         let s = ss[t];
         s.lock();
         t += 1;

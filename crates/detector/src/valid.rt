@@ -4,6 +4,8 @@ ghost use mathlib.Core.Bool.{true};
 ghost use Prim.Native.Nat.{ℕ, _<_};
 ghost use lib.Dec.{ltb};
 ghost use lib.ListN.{getD, length};
+ghost use Rattle.sets.specs.Limits.{THREADS, LOCKS};
+ghost use Rattle.detector.specs.Limits.{CONDVARS, PLACES};
 ghost use Rattle.sets.specs.Below.{every};
 ghost use Rattle.graph.specs.Search.{row};
 ghost use Rattle.waits.specs.Tables.{lockOf, intentOf};
@@ -13,16 +15,25 @@ use crate::state::CvWait;
 use crate::state::Detector;
 use crate::state::Pair;
 use crate::state::Queue;
+use sets::LOCKS;
+use sets::THREADS;
 use waits::Waits;
+
+// The bytes in the tables are compared with these.
+const THREADS_END: u8 = THREADS as u8;
+
+const LOCKS_END: u8 = LOCKS as u8;
+
+const OWNERS_END: u8 = Waits::NOBODY + 1;
 
 // Every intent names a lock.
 fn intents_in_range(w: Waits) -> bool
-    ensures { λ r. ⌜ r ≡ every (λ t. ltb (lockOf (intentOf w t)) 64) 32 ⌝ }
+    ensures { λ r. ⌜ r ≡ every (λ t. ltb (lockOf (intentOf w t)) LOCKS) THREADS ⌝ }
 {
     let mut t = 0;
-    while t < 32 {
+    while t < THREADS {
         let slot = w.thread_waits_for[t];
-        if slot.lock() < 64 {
+        if slot.lock() < LOCKS_END {
             t += 1;
         } else {
             return false;
@@ -32,12 +43,12 @@ fn intents_in_range(w: Waits) -> bool
 }
 
 // Every lock has a thread, or none.
-fn threads_in_range(of: [u8; 64]) -> bool
-    ensures { λ r. ⌜ r ≡ every (λ l. ltb (row of l) 33) 64 ⌝ }
+fn threads_in_range(of: [u8; LOCKS]) -> bool
+    ensures { λ r. ⌜ r ≡ every (λ l. ltb (row of l) 33) LOCKS ⌝ }
 {
     let mut l = 0;
-    while l < 64 {
-        if of[l] < 33 {
+    while l < LOCKS {
+        if of[l] < OWNERS_END {
             l += 1;
         } else {
             return false;
@@ -65,8 +76,8 @@ fn place_valid(n: usize, k: usize, p: Pair) -> bool
     ensures { λ r. ⌜ r ≡ placeTest n k p ⌝ }
 {
     if k < n {
-        if p.thread < 32 {
-            return p.lock < 64;
+        if p.thread < THREADS_END {
+            return p.lock < LOCKS_END;
         }
         return false;
     }
@@ -78,14 +89,14 @@ fn place_valid(n: usize, k: usize, p: Pair) -> bool
 
 // That there are 32 cells is known of a queue alone, and not of one among others: so it is said here.
 fn queue_valid(q: Queue) -> bool
-    ensures { λ r. ⌜ (r ≡ queueTest q) × (length (q .pairs) ≡ 32) ⌝ }
+    ensures { λ r. ⌜ (r ≡ queueTest q) × (length (q .pairs) ≡ PLACES) ⌝ }
 {
     let n = q.len as usize;
-    if 32 < n {
+    if Queue::PLACES < n {
         return false;
     }
     let mut k = 0;
-    while k < 32 {
+    while k < Queue::PLACES {
         let p = q.pairs[k];
         if place_valid(n, k, p) {
             k += 1;
@@ -96,11 +107,11 @@ fn queue_valid(q: Queue) -> bool
     true
 }
 
-fn queues_valid(qs: [Queue; 16]) -> bool
-    ensures { λ r. ⌜ (r ≡ every (λ c. queueTest (getD qs c blankQueue)) 16) × (r ≡ true → (c : ℕ) → c < 16 → length (getD qs c blankQueue .pairs) ≡ 32) ⌝ }
+fn queues_valid(qs: [Queue; Detector::CONDVARS]) -> bool
+    ensures { λ r. ⌜ (r ≡ every (λ c. queueTest (getD qs c blankQueue)) CONDVARS) × (r ≡ true → (c : ℕ) → c < CONDVARS → length (getD qs c blankQueue .pairs) ≡ PLACES) ⌝ }
 {
     let mut c = 0;
-    while c < 16 {
+    while c < Detector::CONDVARS {
         let q = qs[c];
         if queue_valid(q) {
             c += 1;
@@ -114,20 +125,20 @@ fn queues_valid(qs: [Queue; 16]) -> bool
 fn cv_wait_valid(v: CvWait) -> bool
     ensures { λ r. ⌜ r ≡ cvWaitTest v ⌝ }
 {
-    if v.condvar == 16 {
+    if v.condvar == CvWait::NONE {
         return v.lock == 0;
     }
-    if v.condvar < 16 {
-        return v.lock < 64;
+    if v.condvar < CvWait::NONE {
+        return v.lock < LOCKS_END;
     }
     false
 }
 
-fn cv_waits_valid(vs: [CvWait; 32]) -> bool
-    ensures { λ r. ⌜ r ≡ every (λ t. cvWaitTest (getD vs t blankCvWait)) 32 ⌝ }
+fn cv_waits_valid(vs: [CvWait; THREADS]) -> bool
+    ensures { λ r. ⌜ r ≡ every (λ t. cvWaitTest (getD vs t blankCvWait)) THREADS ⌝ }
 {
     let mut t = 0;
-    while t < 32 {
+    while t < THREADS {
         let v = vs[t];
         if cv_wait_valid(v) {
             t += 1;

@@ -3,6 +3,7 @@ use mathlib.Core.List.{List, [], _++_}
 use mathlib.Core.Option.{Option, none, some}
 use Prim.Native.Nat.{ℕ, _-_}
 use lib.ListN.{take, length, replicate}
+use Rattle.sets.specs.Limits.{THREADS}
 use Rattle.graph.specs.Search.{Trail}
 use Rattle.graph.specs.Graph.{Adding, addEdge}
 use Rattle.graph.specs.declared.search.Search.{Search}
@@ -15,7 +16,7 @@ use Rattle.graph.specs.declared.wait_for_graph.Added.{Added}
 -- PATHS
 -- its threads, and zeros behind
 abbrev pub pathOf : List ℕ → Path
-pathOf l = record { threads = l ++ replicate (32 - length l) 0; len = length l }
+pathOf l = record { threads = l ++ replicate (THREADS - length l) 0; len = length l }
 
 abbrev pub soughtOf : Option (List ℕ) → Sought
 soughtOf (some l) = record { way = Found; path = pathOf l }

@@ -6,6 +6,7 @@ use mathlib.Core.Option.{Option, none, some}
 use Prim.Native.Nat.{ℕ, _<_, _^_}
 use lib.Dec.{ltb}
 use lib.ListN.{set, length, replicate}
+use Rattle.sets.specs.Limits.{THREADS}
 use Rattle.sets.specs.Sets.{bit, has, with, without, upward}
 use Rattle.sets.specs.Below.{every}
 use Rattle.graph.specs.Ways.{Rel, Acyclic}
@@ -17,7 +18,7 @@ abbrev pub graph : List ℕ → List ℕ → WaitForGraph
 graph e i = record { edges = e; «incoming_edges» = i }
 
 abbrev pub empty : WaitForGraph
-empty = graph (replicate 32 0) (replicate 32 0)
+empty = graph (replicate THREADS 0) (replicate THREADS 0)
 
 -- the table with j in, or out of, the set at i
 abbrev pub put : List ℕ → ℕ → ℕ → List ℕ
@@ -28,7 +29,7 @@ cut t i j = set t i (without (row t i) j)
 
 -- the table with j out of each set that m names
 unfoldable pub cutAll : ℕ → List ℕ → ℕ → List ℕ
-cutAll j t m = foldl (λ u i. cut u i j) t (upward 32 m)
+cutAll j t m = foldl (λ u i. cut u i j) t (upward THREADS m)
 
 -- ADD EDGE
 -- the graph after it, and the path that kept it from being stored
@@ -67,7 +68,7 @@ addOwners t g os = foldl (addNext t) (adding g none) os
 
 -- a thread, or none
 abbrev pub one : ℕ → List ℕ
-one o = cond (ltb o 32) (o ∷ []) []
+one o = cond (ltb o THREADS) (o ∷ []) []
 
 -- DROPPING AN EDGE
 -- a to b goes out of both sets; nothing where `edges` lacks it
@@ -100,8 +101,8 @@ Mirror e i = (a b : ℕ) → bit (row e a) b ≡ bit (row i b) a
 
 -- 32 rows of sets of numbers below 32
 pub record Sized (g : WaitForGraph) : Type 0 where
-  pub long : length (g .edges) ≡ 32
-  pub long-in : length (g .«incoming_edges») ≡ 32
+  pub long : length (g .edges) ≡ THREADS
+  pub long-in : length (g .«incoming_edges») ≡ THREADS
   pub narrow : (i : ℕ) → row (g .edges) i < 2 ^ 32
   pub narrow-in : (i : ℕ) → row (g .«incoming_edges») i < 2 ^ 32
 
@@ -121,4 +122,4 @@ abbrev pub mirrorAt : ℕ → List ℕ → ℕ → ℕ → Bool
 mirrorAt m i a b = agree (has m b) (has (row i b) a)
 
 unfoldable pub mirrorTest : List ℕ → List ℕ → Bool
-mirrorTest e i = every (λ a. every (mirrorAt (row e a) i a) 32) 32
+mirrorTest e i = every (λ a. every (mirrorAt (row e a) i a) THREADS) THREADS

@@ -3,20 +3,21 @@ use mathlib.Core.Path.{_≡_}
 use Prim.Native.Nat.{ℕ, _<_, _≤_, _^_}
 use lib.ListN.{getD, length}
 use lib.Count.{ones}
+use Rattle.sets.specs.Limits.{THREADS}
 use Rattle.graph.specs.declared.search.Search.{Search}
 use Rattle.graph.specs.declared.path.Path.{Path}
 
 -- at most 32 threads, each below 32
 pub record Fit (p : Path) : Type 0 where
-  pub long : p .len ≤ 32
-  pub small : (k : ℕ) → getD (p .threads) k 0 < 32
+  pub long : p .len ≤ THREADS
+  pub small : (k : ℕ) → getD (p .threads) k 0 < THREADS
   pub cells : p .len ≤ length (p .threads)
 
 -- as many places are in use as threads are seen, each thread is below 32, and each parent stands before
 pub record Sound (s : Search) : Type 0 where
-  pub long : length (s .threads) ≡ 32
-  pub long-from : length (s .parents) ≡ 32
+  pub long : length (s .threads) ≡ THREADS
+  pub long-from : length (s .parents) ≡ THREADS
   pub counted : s .count ≡ ones (s .seen)
   pub below : s .seen < 2 ^ 32
-  pub small : (k : ℕ) → k < s .count → getD (s .threads) k 0 < 32
+  pub small : (k : ℕ) → k < s .count → getD (s .threads) k 0 < THREADS
   pub earlier : (k : ℕ) → 0 < k → k < s .count → getD (s .parents) k 0 < k

@@ -5,6 +5,7 @@ use mathlib.Core.Option.{Option, none, some}
 use Prim.Native.Nat.{ℕ, zero, suc}
 use lib.ListN.{getD, length}
 use lib.Dec.{ltb, eqb}
+use Rattle.sets.specs.Limits.{THREADS}
 use Rattle.sets.specs.Sets.{has, with, upward}
 
 -- row i of a table of sets
@@ -26,7 +27,7 @@ visit p s n =
 
 -- all neighbours m of the one at place p, upward
 unfoldable pub expand : ℕ → Trail → ℕ → Trail
-expand p s m = foldl (visit p) s (upward 32 m)
+expand p s m = foldl (visit p) s (upward THREADS m)
 
 -- from the thread at place k back to the first, before acc; at most f parents
 unfoldable pub wayBack : ℕ → Trail → ℕ → List ℕ → List ℕ
@@ -48,4 +49,4 @@ begin b = record { threads = b ∷ []; parents = 0 ∷ []; seen = with 0 b }
 
 -- 32 turns are enough for 32 rows (theorem `turns-enough`)
 unfoldable pub findPath : List ℕ → ℕ → ℕ → Option (List ℕ)
-findPath rows b a = search 32 rows a 0 (begin b)
+findPath rows b a = search THREADS rows a 0 (begin b)

@@ -1,8 +1,10 @@
 // Do two tables of rows mirror each other?
 ghost use mathlib.Core.Path.{_≡_};
 ghost use Prim.Native.Nat.{_<_};
+ghost use Rattle.sets.specs.Limits.{THREADS};
 ghost use Rattle.sets.specs.Below.{every};
 ghost use Rattle.graph.specs.Graph.{agree, mirrorAt, mirrorTest};
+use sets::THREADS;
 use sets::threads;
 
 fn same(x: bool, y: bool) -> bool
@@ -15,12 +17,12 @@ fn same(x: bool, y: bool) -> bool
 }
 
 // Row a of the edges against column a of the incoming edges.
-fn row_mirrors(row: u32, incoming: [u32; 32], a: usize) -> bool
-    requires { ⌜ a < 32 ⌝ }
-    ensures { λ r. ⌜ r ≡ every (mirrorAt row incoming a) 32 ⌝ }
+fn row_mirrors(row: u32, incoming: [u32; THREADS], a: usize) -> bool
+    requires { ⌜ a < THREADS ⌝ }
+    ensures { λ r. ⌜ r ≡ every (mirrorAt row incoming a) THREADS ⌝ }
 {
     let mut b = 0;
-    while b < 32 {
+    while b < THREADS {
         if same(threads::has(row, b), threads::has(incoming[b], a)) {
             b += 1;
         } else {
@@ -30,11 +32,11 @@ fn row_mirrors(row: u32, incoming: [u32; 32], a: usize) -> bool
     true
 }
 
-pub fn mirrors(edges: [u32; 32], incoming: [u32; 32]) -> bool
+pub fn mirrors(edges: [u32; THREADS], incoming: [u32; THREADS]) -> bool
     ensures { λ r. ⌜ r ≡ mirrorTest edges incoming ⌝ }
 {
     let mut a = 0;
-    while a < 32 {
+    while a < THREADS {
         if row_mirrors(edges[a], incoming, a) {
             a += 1;
         } else {

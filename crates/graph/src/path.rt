@@ -2,10 +2,11 @@
 ghost use mathlib.Core.Path.{_≡_};
 ghost use mathlib.Core.Option.{none};
 ghost use Rattle.graph.specs.Code.{soughtOf, sooner};
+use sets::THREADS;
 
 // The threads in order; the places behind hold 0.
 pub struct Path {
-    pub threads: [u8; 32],
+    pub threads: [u8; THREADS],
     pub len: usize,
 }
 
@@ -27,7 +28,7 @@ impl Sought {
         Sought {
             way: Way::Missing,
             path: Path {
-                threads: [0u8; 32],
+                threads: [0u8; THREADS],
                 len: 0,
             },
         }

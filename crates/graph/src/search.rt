@@ -4,38 +4,40 @@ ghost use mathlib.Core.List.{[]};
 ghost use mathlib.Core.Option.{some};
 ghost use Prim.Native.Nat.{_<_, _≤_};
 ghost use lib.ListN.{drop};
+ghost use Rattle.sets.specs.Limits.{THREADS};
 ghost use Rattle.graph.specs.Search.{visit, expand, wayBack, begin, findPath};
 ghost use Rattle.graph.specs.Promises.{Sound};
 ghost use Rattle.graph.specs.Code.{trailOf, pathOf, soughtOf};
 use crate::path::Path;
 use crate::path::Sought;
 use crate::path::Way;
+use sets::THREADS;
 use sets::threads;
 
 // The threads found, in order: the queue, with what has left it. For each the place of the one that it was found from.
 pub struct Search {
-    pub threads: [u8; 32],
-    pub parents: [u8; 32],
+    pub threads: [u8; THREADS],
+    pub parents: [u8; THREADS],
     pub count: usize,
     pub seen: u32,
 }
 
 struct Back {
-    cells: [u8; 32],
+    cells: [u8; THREADS],
     at: usize,
 }
 
 impl Search {
     fn begun(start: usize) -> Search
-        requires { ⌜ start < 32 ⌝ }
+        requires { ⌜ start < THREADS ⌝ }
         ensures { λ r. ⌜ (trailOf r ≡ begin start) × Sound r × (0 < r .count) ⌝ }
     {
-        let mut threads = [0u8; 32];
+        let mut threads = [0u8; THREADS];
         threads[0] = start as u8;
         let seen = threads::with(0, start);
         Search {
             threads,
-            parents: [0u8; 32],
+            parents: [0u8; THREADS],
             count: 1,
             seen,
         }
@@ -43,7 +45,7 @@ impl Search {
 
     // Thread n is met among the neighbours of the one at place p.
     fn visit(mut self, n: usize, p: usize) -> Search
-        requires { ⌜ Sound self × (n < 32) × (p < self .count) ⌝ }
+        requires { ⌜ Sound self × (n < THREADS) × (p < self .count) ⌝ }
         ensures { λ r. ⌜ (trailOf r ≡ visit p (trailOf self) n) × Sound r × (self .count ≤ r .count) ⌝ }
     {
         let seen = self.seen;
@@ -76,10 +78,10 @@ impl Search {
     // The way to the thread at a place, put down from the end of 32 cells.
     fn back(self, place: usize) -> Back
         requires { ⌜ Sound self × (place < self .count) ⌝ }
-        ensures { λ r. ⌜ (drop (r .at) (r .cells) ≡ wayBack 31 (trailOf self) place []) × (r .at < 32) ⌝ }
+        ensures { λ r. ⌜ (drop (r .at) (r .cells) ≡ wayBack 31 (trailOf self) place []) × (r .at < THREADS) ⌝ }
     {
-        let mut cells = [0u8; 32];
-        let mut at: usize = 32;
+        let mut cells = [0u8; THREADS];
+        let mut at: usize = THREADS;
         let mut k = place;
         while k != 0 {
             at -= 1;
@@ -107,13 +109,13 @@ impl Search {
 }
 
 // The cells from a place on, moved to the front.
-fn lowered(cells: [u8; 32], at: usize) -> Path
-    requires { ⌜ at < 32 ⌝ }
+fn lowered(cells: [u8; THREADS], at: usize) -> Path
+    requires { ⌜ at < THREADS ⌝ }
     ensures { λ r. ⌜ r ≡ pathOf (drop at cells) ⌝ }
 {
-    let mut threads = [0u8; 32];
+    let mut threads = [0u8; THREADS];
     let mut j = 0;
-    while j < 32 - at {
+    while j < THREADS - at {
         threads[j] = cells[at + j];
         j += 1;
     }
@@ -121,8 +123,8 @@ fn lowered(cells: [u8; 32], at: usize) -> Path
 }
 
 // A path from start to target over 32 rows.
-pub fn find_path(edges: [u32; 32], start: usize, target: usize) -> Sought
-    requires { ⌜ start < 32 ⌝ }
+pub fn find_path(edges: [u32; THREADS], start: usize, target: usize) -> Sought
+    requires { ⌜ start < THREADS ⌝ }
     ensures { λ r. ⌜ r ≡ soughtOf (findPath edges start target) ⌝ }
 {
     // Most threads that own a lock wait for nobody.

@@ -2,17 +2,19 @@
 ghost use mathlib.Core.Path.{_≡_};
 ghost use mathlib.Core.List.{_++_};
 ghost use Prim.Native.Nat.{_<_, _≤_};
+ghost use Rattle.sets.specs.Limits.{THREADS, NOBODY};
 ghost use Rattle.sets.specs.Sets.{upward};
 ghost use Rattle.graph.specs.Graph.{empty, cutAll, stored, addEdge, removeEdge, clearWaitEdges, removeThread, addOwners, removeEdgesTo, one};
 ghost use Rattle.graph.specs.Code.{added, addNextC};
 use crate::path::Sought;
 use crate::path::Way;
 use crate::search::find_path;
+use sets::THREADS;
 use sets::threads;
 
 pub struct WaitForGraph {
-    pub edges: [u32; 32],
-    pub incoming_edges: [u32; 32],
+    pub edges: [u32; THREADS],
+    pub incoming_edges: [u32; THREADS],
 }
 
 // The graph after an edge was added, or why it was not.
@@ -22,8 +24,8 @@ pub struct Added {
 }
 
 // The table with t out of each set that m names.
-fn cut_all(table: [u32; 32], m: u32, t: usize) -> [u32; 32]
-    requires { ⌜ t < 32 ⌝ }
+fn cut_all(table: [u32; THREADS], m: u32, t: usize) -> [u32; THREADS]
+    requires { ⌜ t < THREADS ⌝ }
     ensures { λ r. ⌜ r ≡ cutAll t table m ⌝ }
 {
     let mut out = table;
@@ -41,14 +43,14 @@ impl WaitForGraph {
         ensures { λ r. ⌜ r ≡ empty ⌝ }
     {
         WaitForGraph {
-            edges: [0u32; 32],
-            incoming_edges: [0u32; 32],
+            edges: [0u32; THREADS],
+            incoming_edges: [0u32; THREADS],
         }
     }
 
     // Both ways.
     fn stored(mut self, from: usize, to: usize) -> WaitForGraph
-        requires { ⌜ (from < 32) × (to < 32) ⌝ }
+        requires { ⌜ (from < THREADS) × (to < THREADS) ⌝ }
         ensures { λ r. ⌜ r ≡ stored self from to ⌝ }
     {
         let targets = self.edges[from];
@@ -59,7 +61,7 @@ impl WaitForGraph {
     }
 
     fn add_edge(self, from: usize, to: usize) -> Added
-        requires { ⌜ (from < 32) × (to < 32) ⌝ }
+        requires { ⌜ (from < THREADS) × (to < THREADS) ⌝ }
         ensures { λ r. ⌜ r ≡ added (addEdge self from to) ⌝ }
     {
         let edges = self.edges;
@@ -83,7 +85,7 @@ impl WaitForGraph {
     }
 
     pub fn clear_wait_edges(mut self, thread: usize) -> WaitForGraph
-        requires { ⌜ thread < 32 ⌝ }
+        requires { ⌜ thread < THREADS ⌝ }
         ensures { λ r. ⌜ r ≡ clearWaitEdges self thread ⌝ }
     {
         let targets = self.edges[thread];
@@ -95,7 +97,7 @@ impl WaitForGraph {
     }
 
     fn remove_edge(mut self, from: usize, to: usize) -> WaitForGraph
-        requires { ⌜ (from < 32) × (to < 32) ⌝ }
+        requires { ⌜ (from < THREADS) × (to < THREADS) ⌝ }
         ensures { λ r. ⌜ r ≡ removeEdge self from to ⌝ }
     {
         let neighbors = self.edges[from];
@@ -108,7 +110,7 @@ impl WaitForGraph {
     }
 
     pub fn remove_thread(self, thread: usize) -> WaitForGraph
-        requires { ⌜ thread < 32 ⌝ }
+        requires { ⌜ thread < THREADS ⌝ }
         ensures { λ r. ⌜ r ≡ removeThread self thread ⌝ }
     {
         let mut g = self.clear_wait_edges(thread);
@@ -122,8 +124,8 @@ impl WaitForGraph {
 
     // The edges from each of the waiters to a thread go.
     pub fn remove_edges_to(self, waiters: u32, thread: usize) -> WaitForGraph
-        requires { ⌜ thread < 32 ⌝ }
-        ensures { λ r. ⌜ r ≡ removeEdgesTo thread self (upward 32 waiters) ⌝ }
+        requires { ⌜ thread < THREADS ⌝ }
+        ensures { λ r. ⌜ r ≡ removeEdgesTo thread self (upward THREADS waiters) ⌝ }
     {
         let mut g = self;
         let mut left = waiters;
@@ -137,19 +139,19 @@ impl WaitForGraph {
 
     // An edge from t to each of a set of owners, then to the last (32: none); the first path is kept.
     pub fn add_owners(self, t: usize, owners: u32, last: usize) -> Added
-        requires { ⌜ (t < 32) × (last ≤ 32) ⌝ }
-        ensures { λ r. ⌜ r ≡ added (addOwners t self (upward 32 owners ++ one last)) ⌝ }
+        requires { ⌜ (t < THREADS) × (last ≤ NOBODY) ⌝ }
+        ensures { λ r. ⌜ r ≡ added (addOwners t self (upward THREADS owners ++ one last)) ⌝ }
     {
         let a = self.add_all(t, owners);
-        if last < 32 {
+        if last < THREADS {
             return a.add_next(t, last);
         }
         a
     }
 
     fn add_all(self, t: usize, owners: u32) -> Added
-        requires { ⌜ t < 32 ⌝ }
-        ensures { λ r. ⌜ r ≡ added (addOwners t self (upward 32 owners)) ⌝ }
+        requires { ⌜ t < THREADS ⌝ }
+        ensures { λ r. ⌜ r ≡ added (addOwners t self (upward THREADS owners)) ⌝ }
     {
         let sought = Sought::missing();
         let mut a = Added {
@@ -167,8 +169,8 @@ impl WaitForGraph {
 
     // The edges from t anew.
     pub fn relink(self, t: usize, owners: u32, last: usize) -> Added
-        requires { ⌜ (t < 32) × (last ≤ 32) ⌝ }
-        ensures { λ r. ⌜ r ≡ added (addOwners t (clearWaitEdges self t) (upward 32 owners ++ one last)) ⌝ }
+        requires { ⌜ (t < THREADS) × (last ≤ NOBODY) ⌝ }
+        ensures { λ r. ⌜ r ≡ added (addOwners t (clearWaitEdges self t) (upward THREADS owners ++ one last)) ⌝ }
     {
         let g = self.clear_wait_edges(t);
         g.add_owners(t, owners, last)
@@ -178,7 +180,7 @@ impl WaitForGraph {
 impl Added {
     // One edge more; a path found before is kept.
     fn add_next(self, t: usize, owner: usize) -> Added
-        requires { ⌜ (t < 32) × (owner < 32) ⌝ }
+        requires { ⌜ (t < THREADS) × (owner < THREADS) ⌝ }
         ensures { λ r. ⌜ r ≡ addNextC t self owner ⌝ }
     {
         let g = self.graph;

@@ -139,7 +139,7 @@ readers-size : (c : List ℕ) → ((i : ℕ) → getD c i 0 < 256) → Size (rea
 unfolding readersItems readersOf
 readers-size c h =
     below-size (readersOf c) 384 64 64 refl
-    (λ l g. below-size _ 12 32 32 refl (λ t k. reader-pick (eqb (countOf c l t) 0) l t (countOf c l t) g k (h (place l t))))
+    (λ l g. below-size _ 12 32 32 refl (λ t k. reader-pick (eqb (countOf c t l) 0) l t (countOf c t l) g k (h (place t l))))
 
 -- what holds of every pair holds of every pair of a part
 taken : (P : Pair → Type 0) (n : ℕ) (ps : List Pair) → P noPair → ((k : ℕ) → P (getD ps k noPair)) → (k : ℕ) → P (getD (take n ps) k noPair)

@@ -5,6 +5,8 @@ use mathlib.Core.Bool.{cond}
 use mathlib.Core.List.{List, [], _∷_, _++_, map}
 use lib.Dec.{eqb, ltb}
 use lib.ListN.{length, getD}
+use Rattle.sets.specs.Limits.{THREADS, LOCKS}
+use Rattle.detector.specs.Limits.{NONE}
 use Rattle.sets.specs.Sets.{upward}
 use Rattle.graph.specs.Search.{row}
 use Rattle.waits.specs.Tables.{noSlot}
@@ -47,30 +49,30 @@ below n f = along f 0 n
 
 -- the numbers of a set; a table of sets, the sign between place and number
 unfoldable pub membersOf : ℕ → List (List ℕ)
-membersOf m = map decimal (upward 64 m)
+membersOf m = map decimal (upward LOCKS m)
 
 unfoldable pub setItems : ℕ → ℕ → ℕ → List (List ℕ)
-setItems sign i m = map (two i sign) (upward 64 m)
+setItems sign i m = map (two i sign) (upward LOCKS m)
 
 unfoldable pub setsItems : ℕ → List ℕ → List (List ℕ)
 setsItems sign rows = below (length rows) (λ i. setItems sign i (row rows i))
 
 -- lock:thread; 32 is none
 abbrev pub ownerItem : ℕ → ℕ → List (List ℕ)
-ownerItem l o = cond (ltb o 32) (two l (code ":") o ∷ []) []
+ownerItem o l = cond (ltb o THREADS) (two l (code ":") o ∷ []) []
 
 unfoldable pub ownersItems : List ℕ → List (List ℕ)
-ownersItems os = below (length os) (λ l. ownerItem l (row os l))
+ownersItems os = below (length os) (λ l. ownerItem (row os l) l)
 
 -- lock:thread:count; 0 is none
 abbrev pub readerItem : ℕ → ℕ → ℕ → List (List ℕ)
-readerItem l t n = cond (eqb n 0) [] (three l (decimal t) n ∷ [])
+readerItem t l n = cond (eqb n 0) [] (three l (decimal t) n ∷ [])
 
 unfoldable pub readersOf : List ℕ → ℕ → List (List ℕ)
-readersOf c l = below 32 (λ t. readerItem l t (countOf c l t))
+readersOf counts l = below THREADS (λ t. readerItem t l (countOf counts t l))
 
 unfoldable pub readersItems : List ℕ → List (List ℕ)
-readersItems c = below 64 (readersOf c)
+readersItems counts = below LOCKS (readersOf counts)
 
 -- condvar:thread:lock, in queue order
 abbrev pub pairItem : ℕ → Pair → List ℕ
@@ -84,7 +86,7 @@ queuesItems qs = below (length qs) (λ c. queueItems c (getD qs c []))
 
 -- thread:condvar:lock; condvar 16 is none
 abbrev pub cvWaitItem : ℕ → CvWait → List (List ℕ)
-cvWaitItem t v = cond (eqb (v .condvar) 16) [] (three t (decimal (v .condvar)) (v .lock) ∷ [])
+cvWaitItem t v = cond (eqb (v .condvar) NONE) [] (three t (decimal (v .condvar)) (v .lock) ∷ [])
 
 unfoldable pub cvWaitsItems : List CvWait → List (List ℕ)
 cvWaitsItems vs = below (length vs) (λ t. cvWaitItem t (getD vs t blankCvWait))
@@ -117,7 +119,7 @@ mutexesText w =
     tableText (text "lock_waiters") (setsItems (code ":") (w .«lock_waiters»)) ++ tableText (text "mutex_owners") (ownersItems (w .«mutex_owners»))
 
 unfoldable pub rwlocksText : Waits → List ℕ → List ℕ
-rwlocksText w c = tableText (text "rwlock_readers") (readersItems c) ++ tableText (text "rwlock_writer") (ownersItems (w .«rwlock_writer»))
+rwlocksText w counts = tableText (text "rwlock_readers") (readersItems counts) ++ tableText (text "rwlock_writer") (ownersItems (w .«rwlock_writer»))
 
 unfoldable pub threadsText : Waits → List CvWait → List ℕ
 threadsText w v =

@@ -3,6 +3,7 @@ use Prim.Native.Nat.{ℕ, _<_}
 use mathlib.Core.List.{List}
 use lib.Dec.{eqb}
 use lib.ListN.{getD}
+use Rattle.detector.specs.Limits.{CONDVARS}
 use Rattle.text.specs.Promises.{Room, Put}
 use Rattle.detector.specs.State.{Queued, blankQueue}
 use Rattle.detector.specs.declared.state.Queue.{Queue}
@@ -17,4 +18,4 @@ pub record Lists (start : ℕ) (name : List ℕ) (items : List (List ℕ)) (d : 
 
 -- every queue is one that refusal 2 lets through
 abbrev pub Queues : List Queue → Type 0
-Queues qs = (c : ℕ) → c < 16 → Queued (getD qs c blankQueue)
+Queues qs = (c : ℕ) → c < CONDVARS → Queued (getD qs c blankQueue)

@@ -8,6 +8,7 @@ use text::wide;
 use waits::Awaits;
 use waits::Slot;
 use waits::WaitMode;
+use waits::Waits;
 ghost use mathlib.Core.Path.{_≡_};
 ghost use mathlib.Core.List.{[], _∷_};
 ghost use Rattle.listing.specs.Listing.{ownerItem, readerItem, pairItem, cvWaitItem, intentItem};
@@ -18,13 +19,13 @@ pub(crate) fn put_owner(
     start: usize,
     at: usize,
     name: &[u8],
-    l: usize,
     o: u8,
+    l: usize,
 ) -> usize
-    requires { ⌜ Roomy start (now name) (ownerItem l o) (now out) at ⌝ }
-    ensures { λ r. ⌜ Lists start (now (name .entry)) (ownerItem l o) (now (out .entry)) at (now (out .exit)) r ⌝ }
+    requires { ⌜ Roomy start (now name) (ownerItem o l) (now out) at ⌝ }
+    ensures { λ r. ⌜ Lists start (now (name .entry)) (ownerItem o l) (now (out .entry)) at (now (out .exit)) r ⌝ }
 {
-    if o < 32 {
+    if o < Waits::NOBODY {
         return put_two(out, start, at, name, l, b':', wide(o));
     }
     at
@@ -35,12 +36,12 @@ pub(crate) fn put_reader(
     start: usize,
     at: usize,
     name: &[u8],
-    l: usize,
     t: usize,
+    l: usize,
     n: u8,
 ) -> usize
-    requires { ⌜ Roomy start (now name) (readerItem l t n) (now out) at ⌝ }
-    ensures { λ r. ⌜ Lists start (now (name .entry)) (readerItem l t n) (now (out .entry)) at (now (out .exit)) r ⌝ }
+    requires { ⌜ Roomy start (now name) (readerItem t l n) (now out) at ⌝ }
+    ensures { λ r. ⌜ Lists start (now (name .entry)) (readerItem t l n) (now (out .entry)) at (now (out .exit)) r ⌝ }
 {
     if n == 0 {
         return at;
@@ -73,7 +74,7 @@ pub(crate) fn put_cv_wait(
     requires { ⌜ Roomy start (now name) (cvWaitItem t v) (now out) at ⌝ }
     ensures { λ r. ⌜ Lists start (now (name .entry)) (cvWaitItem t v) (now (out .entry)) at (now (out .exit)) r ⌝ }
 {
-    if v.condvar == 16 {
+    if v.condvar == CvWait::NONE {
         return at;
     }
     put_three(out, start, at, name, t, wide(v.condvar), wide(v.lock))

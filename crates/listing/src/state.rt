@@ -10,6 +10,7 @@ use crate::rows::put_readers;
 use detector::CvWait;
 use detector::Detector;
 use detector::Queue;
+use sets::THREADS;
 use waits::Waits;
 ghost use mathlib.Core.List.{map};
 ghost use Prim.Native.Nat.{_+_, _≤_};
@@ -23,7 +24,7 @@ ghost use Rattle.listing.specs.Code.{tablesBytes};
 // Room for the tables of any state.
 pub const TABLES_BYTES: usize = 120000;
 
-fn put_condvars(out: &mut [u8], at: usize, queues: [Queue; 16], woken: u32) -> usize
+fn put_condvars(out: &mut [u8], at: usize, queues: [Queue; Detector::CONDVARS], woken: u32) -> usize
     requires { ⌜ Queues queues × Room (now out) at (condvarsText (map pairsOf queues) woken) ⌝ }
     ensures { λ r. ⌜ Put (now (out .entry)) at (condvarsText (map pairsOf queues) woken) (now (out .exit)) r ⌝ }
 {
@@ -52,7 +53,7 @@ fn put_mutexes(out: &mut [u8], at: usize, w: Waits) -> usize
     put_owners(out, a, b"mutex_owners", &owners)
 }
 
-fn put_rwlocks(out: &mut [u8], at: usize, w: Waits, counts: &[u8; 2048]) -> usize
+fn put_rwlocks(out: &mut [u8], at: usize, w: Waits, counts: &[u8; Waits::COUNTS]) -> usize
     requires { ⌜ Room (now out) at (rwlocksText w (now counts)) ⌝ }
     ensures { λ r. ⌜ Put (now (out .entry)) at (rwlocksText w (now (counts .entry))) (now (out .exit)) r ⌝ }
 {
@@ -61,7 +62,7 @@ fn put_rwlocks(out: &mut [u8], at: usize, w: Waits, counts: &[u8; 2048]) -> usiz
     put_owners(out, a, b"rwlock_writer", &writers)
 }
 
-fn put_threads(out: &mut [u8], at: usize, w: Waits, waits: [CvWait; 32]) -> usize
+fn put_threads(out: &mut [u8], at: usize, w: Waits, waits: [CvWait; THREADS]) -> usize
     requires { ⌜ Room (now out) at (threadsText w waits) ⌝ }
     ensures { λ r. ⌜ Put (now (out .entry)) at (threadsText w waits) (now (out .exit)) r ⌝ }
 {

@@ -45,11 +45,11 @@ range-slot w t v x h s =
 pub range-graph : (w : Waits) (g : WaitForGraph) → InRange w → InRange (withGraph w g)
 range-graph w g s = record { locks = s .locks; owner = s .owner; writer = s .writer }
 
-pub range-own : (w : Waits) (l o : ℕ) → o ≤ 32 → InRange w → InRange (own w l o)
+pub range-own : (w : Waits) (l o : ℕ) → o ≤ 32 → InRange w → InRange (own w o l)
 range-own w l o h s =
     record { locks = s .locks; owner = set-all (λ (x : ℕ). x ≤ 32) (w .«mutex_owners») l o 0 h (s .owner); writer = s .writer }
 
-pub range-write : (w : Waits) (l o : ℕ) → o ≤ 32 → InRange w → InRange (write w l o)
+pub range-write : (w : Waits) (l o : ℕ) → o ≤ 32 → InRange w → InRange (write w o l)
 range-write w l o h s =
     record { locks = s .locks; owner = s .owner; writer = set-all (λ (x : ℕ). x ≤ 32) (w .«rwlock_writer») l o 0 h (s .writer) }
 
@@ -100,7 +100,7 @@ range-empty =
 
 pub readers-lt : (c : List ℕ) (l x : ℕ) → In x (readers c l) → x < 32
 unfolding readers
-readers-lt c l x m = those-in (reads c l) 32 x m .0
+readers-lt c l x m = those-in (λ t. reads c t l) 32 x m .0
 
 then-lt : (c : List ℕ) (l o x : ℕ) → In x (thenWriter (readers c l) o) → x < 32
 then-lt c l o x m = ⊎-elim (readers-lt c l x) (λ i. go (among o (readers c l)) i) (in-either x (readers c l) _ m)

@@ -47,7 +47,7 @@ done-of ts n i h b = let l : length (take n ts) ≡ n = length-take-le n ts b in
 -- below t it has the readers, from t on nothing
 pub record Masked (c : List ℕ) (l t m : ℕ) : Type 0 where
   pub fits : m < 2 ^ 32
-  pub below : (k : ℕ) → k < t → has m k ≡ reads c l k
+  pub below : (k : ℕ) → k < t → has m k ≡ reads c k l
   pub above : (k : ℕ) → t ≤ k → bit m k ≡ 0
 
 pub masked-none : (c : List ℕ) (l : ℕ) → Masked c l 0 0
@@ -55,30 +55,30 @@ masked-none c l = record { fits = lit< tt; below = λ k h. absurd (omega arith);
 
 module _ (c : List ℕ) (l t m : ℕ) (h : t < 32) (s : Masked c l t m) where
   -- the digit at t is settled
-  settled : (m′ : ℕ) → has m′ t ≡ reads c l t → (k : ℕ) → k ≡ t → has m′ k ≡ reads c l k
-  settled m′ d k e = ap (λ (j : ℕ). has m′ j) e ∙ d ∙ sym (ap (reads c l) e)
+  settled : (m′ : ℕ) → has m′ t ≡ reads c t l → (k : ℕ) → k ≡ t → has m′ k ≡ reads c k l
+  settled m′ d k e = ap (λ (j : ℕ). has m′ j) e ∙ d ∙ sym (ap (λ t. reads c t l) e)
 
-  pub masked-more : (countOf c l t ≡ 0 → ⊥) → Masked c l (t + 1) (with m t)
+  pub masked-more : (countOf c t l ≡ 0 → ⊥) → Masked c l (t + 1) (with m t)
   masked-more n =
       record {
         fits = with-lt 32 m t (s .fits) h;
         below = λ k i. ⊎-elim
             (λ j. ap (λ (d : ℕ). eqb d 1) (bit-with-other m t k (λ e. omega arith)) ∙ s .below k j)
-            (settled (with m t) (bit-has _ t (bit-with-same m t) ∙ sym (ap not (ne-eqb (countOf c l t) 0 n))) k) (last-or k t (omega arith));
+            (settled (with m t) (bit-has _ t (bit-with-same m t) ∙ sym (ap not (ne-eqb (countOf c t l) 0 n))) k) (last-or k t (omega arith));
         above = λ k i. bit-with-other m t k (λ e. omega arith) ∙ s .above k (omega arith);
       }
 
-  pub masked-same : countOf c l t ≡ 0 → Masked c l (t + 1) m
+  pub masked-same : countOf c t l ≡ 0 → Masked c l (t + 1) m
   masked-same z =
       record {
         fits = s .fits;
-        below = λ k i. ⊎-elim (λ j. s .below k j) (settled m (ap (λ (d : ℕ). eqb d 1) (s .above t (omega arith)) ∙ sym (ap not (eq-eqb (countOf c l t) 0 z))) k) (last-or k t (omega arith));
+        below = λ k i. ⊎-elim (λ j. s .below k j) (settled m (ap (λ (d : ℕ). eqb d 1) (s .above t (omega arith)) ∙ sym (ap not (eq-eqb (countOf c t l) 0 z))) k) (last-or k t (omega arith));
         above = λ k i. s .above k (omega arith);
       }
 
 pub masked-readers : (c : List ℕ) (l m : ℕ) → Masked c l 32 m → upward 32 m ≡ readers c l
 unfolding readers
-masked-readers c l m s = upward-those 32 m ∙ those-same (has m) (reads c l) 32 (s .below)
+masked-readers c l m s = upward-those 32 m ∙ those-same (has m) (λ t. reads c t l) 32 (s .below)
 
 -- ---- the last owner
 
@@ -231,7 +231,7 @@ has-and a b l = rw (bit-and a b l) (go (bit-cases a l) (bit-cases b l))
     go (inr p) (inl q) = rw (p, q)
     go (inr p) (inr q) = rw (p, q)
 
-has-common : (w : Waits) (l : ℕ) (p : List ℕ) (m : ℕ) → has (commonMask (w .«thread_holds») m p) l ≡ cond (has m l) (allHold w l p) false
+has-common : (w : Waits) (l : ℕ) (p : List ℕ) (m : ℕ) → has (commonMask (w .«thread_holds») m p) l ≡ cond (has m l) (allHold w p l) false
 unfolding commonMask allHold
 has-common w l [] m = go (has m l)
   where
@@ -240,10 +240,10 @@ has-common w l [] m = go (has m l)
     go false = refl
 has-common w l (t ∷ p) m =
     has-common w l p (bitAnd m (row (w .«thread_holds») t))
-    ∙ ap (λ (x : Bool). cond x (allHold w l p) false) (has-and m (row (w .«thread_holds») t) l)
+    ∙ ap (λ (x : Bool). cond x (allHold w p l) false) (has-and m (row (w .«thread_holds») t) l)
     ∙ go (has m l) (has (holdsOf w t) l)
   where
-    go : (x y : Bool) → cond (cond x y false) (allHold w l p) false ≡ cond x (cond y (allHold w l p) false) false
+    go : (x y : Bool) → cond (cond x y false) (allHold w p l) false ≡ cond x (cond y (allHold w p l) false) false
     go true y = refl
     go false y = refl
 
@@ -257,7 +257,7 @@ full (suc k) (suc l) h =
     let z : (2 ^ suc k - 1) / 2 ≡ 2 ^ k - 1 = omega (arith, pow-pos k) in
     rw z (full k l (omega arith))
 
-pub all-hold : (w : Waits) (p : List ℕ) → upward 64 (commonMask (w .«thread_holds») 18446744073709551615 p) ≡ those (λ l. allHold w l p) 64
+pub all-hold : (w : Waits) (p : List ℕ) → upward 64 (commonMask (w .«thread_holds») 18446744073709551615 p) ≡ those (λ l. allHold w p l) 64
 all-hold w p =
     upward-those 64 _ ∙ those-same _ _ 64 (λ l h. has-common w l p 18446744073709551615 ∙ rw (full 64 l h))
 
@@ -289,19 +289,19 @@ in-nothing (x ∷ l) h = absurd (h x (inl refl))
 
 pub all-read-passes : (c : List ℕ) (w : Waits) (p : List ℕ) → allRead c (upward 64 (commonMask (w .«thread_holds») 18446744073709551615 p)) ≡ passes c w p
 unfolding commonLocks
-all-read-passes c w p = ap (allRead c) (all-hold w p) ∙ go (allRead c (those (λ l. allHold w l p) 64)) refl
+all-read-passes c w p = ap (allRead c) (all-hold w p) ∙ go (allRead c (those (λ l. allHold w p l) 64)) refl
   where
-    go : (b : Bool) → allRead c (those (λ l. allHold w l p) 64) ≡ b → b ≡ passes c w p
+    go : (b : Bool) → allRead c (those (λ l. allHold w p l) 64) ≡ b → b ≡ passes c w p
     go true e =
-        sym (in-nothing (those (λ l. cond (allHold w l p) (nobodyReads c l) false) 64) (λ l i.
-        let q = those-in (λ l. cond (allHold w l p) (nobodyReads c l) false) 64 l i in
-        let z = both (allHold w l p) (nobodyReads c l) (q .1) in
-        true≢false (sym (z .1) ∙ read-all c (those (λ l. allHold w l p) 64) e l (in-those (λ l. allHold w l p) 64 l (q .0) (z .0)))))
+        sym (in-nothing (those (λ l. cond (allHold w p l) (nobodyReads c l) false) 64) (λ l i.
+        let q = those-in (λ l. cond (allHold w p l) (nobodyReads c l) false) 64 l i in
+        let z = both (allHold w p l) (nobodyReads c l) (q .1) in
+        true≢false (sym (z .1) ∙ read-all c (those (λ l. allHold w p l) 64) e l (in-those (λ l. allHold w p l) 64 l (q .0) (z .0)))))
     go false e =
-        let q = read-not c (those (λ l. allHold w l p) 64) e in
-        let i = those-in (λ l. allHold w l p) 64 (q .0) (q .1) in
-        sym (nothing-in (those (λ l. cond (allHold w l p) (nobodyReads c l) false) 64) (q .0)
-        (in-those (λ l. cond (allHold w l p) (nobodyReads c l) false) 64 (q .0) (i .0) (ap (λ (x : Bool). cond x (nobodyReads c (q .0)) false) (i .1) ∙ q .2)))
+        let q = read-not c (those (λ l. allHold w p l) 64) e in
+        let i = those-in (λ l. allHold w p l) 64 (q .0) (q .1) in
+        sym (nothing-in (those (λ l. cond (allHold w p l) (nobodyReads c l) false) 64) (q .0)
+        (in-those (λ l. cond (allHold w p l) (nobodyReads c l) false) 64 (q .0) (i .0) (ap (λ (x : Bool). cond x (nobodyReads c (q .0)) false) (i .1) ∙ q .2)))
 
 -- ---- whether a lock is read
 

@@ -24,18 +24,18 @@ noCounts = replicate 2048 0
 
 -- thread t reads lock l once
 reading : List ℕ → ℕ → ℕ → List ℕ
-reading c t l = set c (place l t) 1
+reading c t l = set c (place t l) 1
 
 writing : ℕ → WaitIntent
 writing l = record { «lock_id» = l; mode = RwWrite }
 
 -- readers upward, the writer last even where its number is lower
-writer-last : owners (reading noCounts 5 7) (write empty 7 2) (writing 7) ≡ 5 ∷ 2 ∷ []
+writer-last : owners (reading noCounts 5 7) (write empty 2 7) (writing 7) ≡ 5 ∷ 2 ∷ []
 unfolding noCounts reading writing readers those among
 writer-last = refl
 
 -- a writer that reads too stands once, among the readers
-writer-once : owners (reading (reading noCounts 5 7) 2 7) (write empty 7 2) (writing 7) ≡ 2 ∷ 5 ∷ []
+writer-once : owners (reading (reading noCounts 5 7) 2 7) (write empty 2 7) (writing 7) ≡ 2 ∷ 5 ∷ []
 unfolding noCounts reading writing readers those among
 writer-once = refl
 

@@ -29,25 +29,25 @@ abbrev pub laterC : Added → Added → Added
 laterC a n = record { graph = n .graph; sought = sooner (a .sought) (n .sought) }
 
 abbrev pub renewForC : List ℕ → Waits → Added → ℕ → Awaits → Added
-renewForC c w a t Nothing = a
-renewForC c w a t (For i) = laterC a (added (addOwners t (clearWaitEdges (a .graph) t) (owners c w i)))
+renewForC counts w a t Nothing = a
+renewForC counts w a t (For i) = laterC a (added (addOwners t (clearWaitEdges (a .graph) t) (owners counts w i)))
 
 unfoldable pub renewC : List ℕ → Waits → Added → ℕ → Added
-renewC c w a t = renewForC c w a t (intentOf w t)
+renewC counts w a t = renewForC counts w a t (intentOf w t)
 
 unfoldable pub refreshNextC : List ℕ → Linked → ℕ → Linked
-refreshNextC c k l = let n = linked (refresh c (k .waits) l) in record { waits = n .waits; sought = sooner (k .sought) (n .sought) }
+refreshNextC counts k l = let n = linked (refresh counts (k .waits) l) in record { waits = n .waits; sought = sooner (k .sought) (n .sought) }
 
 -- a blocked try by its mode: a free lock blocks no writer, and a mutex's path must pass the filter
 abbrev pub freeFor : WaitMode → List ℕ → Waits → ℕ → Bool
-freeFor Mutex c w l = false
-freeFor RwRead c w l = false
-freeFor RwWrite c w l = free c w l
+freeFor Mutex counts w l = false
+freeFor RwRead counts w l = false
+freeFor RwWrite counts w l = free counts w l
 
 abbrev pub passesFor : WaitMode → List ℕ → Waits → List ℕ → Bool
-passesFor Mutex c w p = passes c w p
-passesFor RwRead c w p = true
-passesFor RwWrite c w p = true
+passesFor Mutex counts w p = passes counts w p
+passesFor RwRead counts w p = true
+passesFor RwWrite counts w p = true
 
 -- MASKS
 -- the locks of m that all threads of p hold
@@ -57,8 +57,8 @@ commonMask holds m (t ∷ p) = commonMask holds (bitAnd m (row holds t)) p
 
 -- every lock of the list has a reader
 unfoldable pub allRead : List ℕ → List ℕ → Bool
-allRead c [] = true
-allRead c (l ∷ ls) = cond (nobodyReads c l) false (allRead c ls)
+allRead counts [] = true
+allRead counts (l ∷ ls) = cond (nobodyReads counts l) false (allRead counts ls)
 
 -- m and the locks that threads of p await
 abbrev pub withAwaited : ℕ → Awaits → ℕ

@@ -2,6 +2,7 @@
 use mathlib.Core.List.{List, [], _∷_}
 use mathlib.Core.Bool.{Bool, true, false, cond}
 use Prim.Native.Nat.{ℕ}
+use Rattle.sets.specs.Limits.{LOCKS}
 use Rattle.sets.specs.Sets.{has}
 use Rattle.sets.specs.Below.{those}
 use Rattle.waits.specs.Tables.{holdsOf}
@@ -14,17 +15,17 @@ nothing [] = true
 nothing (x ∷ l) = false
 
 -- l is in the holds of all threads of p
-unfoldable pub allHold : Waits → ℕ → List ℕ → Bool
-allHold w l [] = true
-allHold w l (t ∷ p) = cond (has (holdsOf w t) l) (allHold w l p) false
+unfoldable pub allHold : Waits → List ℕ → ℕ → Bool
+allHold w [] l = true
+allHold w (t ∷ p) l = cond (has (holdsOf w t) l) (allHold w p l) false
 
 -- nobody reads l
 abbrev pub nobodyReads : List ℕ → ℕ → Bool
-nobodyReads c l = nothing (readers c l)
+nobodyReads counts l = nothing (readers counts l)
 
 -- the locks that all of p hold and nobody reads, upward
 unfoldable pub commonLocks : List ℕ → Waits → List ℕ → List ℕ
-commonLocks c w p = those (λ l. cond (allHold w l p) (nobodyReads c l) false) 64
+commonLocks counts w p = those (λ l. cond (allHold w p l) (nobodyReads counts l) false) LOCKS
 
 abbrev pub passes : List ℕ → Waits → List ℕ → Bool
-passes c w p = nothing (commonLocks c w p)
+passes counts w p = nothing (commonLocks counts w p)

@@ -4,6 +4,7 @@ use mathlib.Core.Bool.{Bool, not, cond}
 use Prim.Native.Nat.{ℕ, _+_, _*_}
 use lib.Dec.{eqb}
 use lib.ListN.{getD}
+use Rattle.sets.specs.Limits.{THREADS, LOCKS}
 use Rattle.sets.specs.Lists.{among}
 use Rattle.sets.specs.Below.{those}
 use Rattle.graph.specs.Graph.{one}
@@ -15,20 +16,24 @@ use Rattle.waits.specs.declared.intent.WaitMode.the-variants.{Mutex, RwR
 use Rattle.waits.specs.declared.intent.Awaits.{Awaits}
 use Rattle.waits.specs.declared.intent.Awaits.the-variants.{Nothing, For}
 
--- where the count of lock l and thread t stands
+-- how many counts there are
+abbrev pub COUNTS : ℕ
+COUNTS = LOCKS * THREADS
+
+-- where the count of thread t and lock l stands
 abbrev pub place : ℕ → ℕ → ℕ
-place l t = l * 32 + t
+place t l = l * THREADS + t
 
 -- how often thread t reads lock l
 abbrev pub countOf : List ℕ → ℕ → ℕ → ℕ
-countOf c l t = getD c (place l t) 0
+countOf counts t l = getD counts (place t l) 0
 
 abbrev pub reads : List ℕ → ℕ → ℕ → Bool
-reads c l t = not (eqb (countOf c l t) 0)
+reads counts t l = not (eqb (countOf counts t l) 0)
 
 -- all readers of l, upward
 unfoldable pub readers : List ℕ → ℕ → List ℕ
-readers c l = those (reads c l) 32
+readers counts l = those (λ t. reads counts t l) THREADS
 
 -- the readers, then the writer if not among them
 abbrev pub thenWriter : List ℕ → ℕ → List ℕ
@@ -37,18 +42,18 @@ thenWriter rs o = rs ++ cond (among o rs) [] (one o)
 -- Mutex: the mutex owner. RwRead: the writer. RwWrite: all readers upward, then the writer if not among them.
 -- The waiter itself is not left out.
 abbrev pub ownersFor : List ℕ → Waits → ℕ → WaitMode → List ℕ
-ownersFor c w l Mutex = one (ownerOf w l)
-ownersFor c w l RwRead = one (writerOf w l)
-ownersFor c w l RwWrite = thenWriter (readers c l) (writerOf w l)
+ownersFor counts w l Mutex = one (ownerOf w l)
+ownersFor counts w l RwRead = one (writerOf w l)
+ownersFor counts w l RwWrite = thenWriter (readers counts l) (writerOf w l)
 
 abbrev pub owners : List ℕ → Waits → WaitIntent → List ℕ
-owners c w i = ownersFor c w (i .«lock_id») (i .mode)
+owners counts w i = ownersFor counts w (i .«lock_id») (i .mode)
 
 -- TRULY WAITS
 abbrev pub blocking : List ℕ → Waits → Awaits → List ℕ
-blocking c w Nothing = []
-blocking c w (For i) = owners c w i
+blocking counts w Nothing = []
+blocking counts w (For i) = owners counts w i
 
 -- a has an intent, and b is among its blocking owners
 unfoldable pub waitsFor : List ℕ → Waits → ℕ → ℕ → Bool
-waitsFor c w a b = among b (blocking c w (intentOf w a))
+waitsFor counts w a b = among b (blocking counts w (intentOf w a))

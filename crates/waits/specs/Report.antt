@@ -2,6 +2,7 @@
 use mathlib.Core.List.{List, [], _∷_, _++_, map}
 use Prim.Native.Nat.{ℕ, _+_, _*_}
 use lib.ListN.{length}
+use Rattle.sets.specs.Limits.{THREADS}
 use Rattle.waits.specs.Tables.{intentOf, lockOf}
 use Rattle.waits.specs.declared.tables.Waits.{Waits}
 
@@ -45,7 +46,7 @@ bytesOf r = cycleBytes (entriesOf r)
 
 -- the longest: 32 entries and their number
 abbrev pub reportBytes : ℕ
-reportBytes = 1 + 32 * entryBytes
+reportBytes = 1 + THREADS * entryBytes
 
 -- several reports, one after the other
 unfoldable pub written : List Report → List ℕ

@@ -2,6 +2,7 @@
 use mathlib.Core.List.{List}
 use Prim.Native.Nat.{ℕ, _<_, _≤_}
 use lib.ListN.{getD, set, replicate}
+use Rattle.sets.specs.Limits.{THREADS, LOCKS, NOBODY}
 use Rattle.sets.specs.Sets.{with, without}
 use Rattle.graph.specs.Search.{row}
 use Rattle.graph.specs.Graph as graph
@@ -73,7 +74,7 @@ withHolds w h =
 
 -- the mutex owner, or the writer, of l is o
 abbrev pub own : Waits → ℕ → ℕ → Waits
-own w l o =
+own w o l =
     record {
       «wait_for_graph» = w .«wait_for_graph»;
       «thread_waits_for» = w .«thread_waits_for»;
@@ -84,7 +85,7 @@ own w l o =
     }
 
 abbrev pub write : Waits → ℕ → ℕ → Waits
-write w l o =
+write w o l =
     record {
       «wait_for_graph» = w .«wait_for_graph»;
       «thread_waits_for» = w .«thread_waits_for»;
@@ -106,15 +107,15 @@ abbrev pub empty : Waits
 empty =
     record {
       «wait_for_graph» = graph.empty;
-      «thread_waits_for» = replicate 32 noSlot;
-      «lock_waiters» = replicate 64 0;
-      «thread_holds» = replicate 32 0;
-      «mutex_owners» = replicate 64 32;
-      «rwlock_writer» = replicate 64 32;
+      «thread_waits_for» = replicate THREADS noSlot;
+      «lock_waiters» = replicate LOCKS 0;
+      «thread_holds» = replicate THREADS 0;
+      «mutex_owners» = replicate LOCKS NOBODY;
+      «rwlock_writer» = replicate LOCKS NOBODY;
     }
 
 -- what refusal 2 asks of these tables; their types keep the sets in range
 pub record InRange (w : Waits) : Type 0 where
-  pub locks : (t : ℕ) → lockOf (intentOf w t) < 64
-  pub owner : (l : ℕ) → ownerOf w l ≤ 32
-  pub writer : (l : ℕ) → writerOf w l ≤ 32
+  pub locks : (t : ℕ) → lockOf (intentOf w t) < LOCKS
+  pub owner : (l : ℕ) → ownerOf w l ≤ NOBODY
+  pub writer : (l : ℕ) → writerOf w l ≤ NOBODY

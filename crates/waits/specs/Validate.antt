@@ -4,6 +4,7 @@ use mathlib.Core.Bool.{Bool, true, false, cond}
 use mathlib.Core.Option.{Option, none, some}
 use Prim.Native.Nat.{ℕ}
 use lib.Dec.{eqb}
+use Rattle.sets.specs.Limits.{LOCKS}
 use Rattle.sets.specs.Below.{those}
 use Rattle.waits.specs.Tables.{intentOf}
 use Rattle.waits.specs.Owners.{waitsFor}
@@ -15,12 +16,12 @@ use Rattle.waits.specs.declared.intent.Awaits.the-variants.{Nothing, For
 
 -- a waits for the first of r, each of r for the next, and the last for f
 unfoldable pub around : List ℕ → Waits → ℕ → ℕ → List ℕ → Bool
-around c w f a [] = waitsFor c w a f
-around c w f a (b ∷ r) = cond (waitsFor c w a b) (around c w f b r) false
+around counts w f a [] = waitsFor counts w a f
+around counts w f a (b ∷ r) = cond (waitsFor counts w a b) (around counts w f b r) false
 
 unfoldable pub valid : List ℕ → Waits → List ℕ → Bool
-valid c w [] = false
-valid c w (a ∷ r) = around c w a a r
+valid counts w [] = false
+valid counts w (a ∷ r) = around counts w a a r
 
 -- a thread of p awaits l
 abbrev pub names : Awaits → ℕ → Bool
@@ -33,16 +34,16 @@ someAwaits w (t ∷ p) l = cond (names (intentOf w t) l) true (someAwaits w p l)
 
 -- the locks that threads of p await, upward, each once
 unfoldable pub awaitedLocks : Waits → List ℕ → List ℕ
-awaitedLocks w p = those (someAwaits w p) 64
+awaitedLocks w p = those (someAwaits w p) LOCKS
 
 -- after the last refresh: report that path if it validates, else nothing; no second filter
 unfoldable pub checked : List ℕ → Waits → Option (List ℕ) → Judging
-checked c w none = quiet w
-checked c w (some p) = cond (valid c w p) (reporting w p) (quiet w)
+checked counts w none = quiet w
+checked counts w (some p) = cond (valid counts w p) (reporting w p) (quiet w)
 
 abbrev pub again : List ℕ → Linking → Judging
-again c s = checked c (s .waits) (s .found)
+again counts s = checked counts (s .waits) (s .found)
 
 -- if so, report; if not, refresh the locks its threads await, keep the first path of all, and look once more
 unfoldable pub validate : List ℕ → Waits → List ℕ → Judging
-validate c w p = cond (valid c w p) (reporting w p) (again c (refreshLocks c w (awaitedLocks w p)))
+validate counts w p = cond (valid counts w p) (reporting w p) (again counts (refreshLocks counts w (awaitedLocks w p)))

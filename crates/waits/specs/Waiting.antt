@@ -3,6 +3,7 @@ use mathlib.Core.List.{List, foldl}
 use mathlib.Core.Option.{Option, none}
 use Prim.Native.Nat.{ℕ}
 use lib.ListN.{set}
+use Rattle.sets.specs.Limits.{THREADS}
 use Rattle.sets.specs.Sets.{with, without, upward}
 use Rattle.graph.specs.Graph.{Adding, adding, clearWaitEdges, addOwners, first}
 use Rattle.waits.specs.Tables.{noSlot, intentOf, waitersOf, withGraph, withIntents}
@@ -38,7 +39,7 @@ linking w k = record { waits = withGraph w (k .graph); found = k .found }
 
 -- .. add an edge to each blocking owner in order; keep the first path, go on with the rest
 unfoldable pub register : List ℕ → Waits → ℕ → WaitIntent → Linking
-register c w t i = let u = setIntent w t i in linking u (addOwners t (u .«wait_for_graph») (owners c u i))
+register counts w t i = let u = setIntent w t i in linking u (addOwners t (u .«wait_for_graph») (owners counts u i))
 
 -- REFRESH a lock: its waiters are noted first; for each that has an intent, drop its edges and add one to each owner
 -- that blocks its own intent; keep the first path
@@ -46,27 +47,27 @@ abbrev pub later : Adding → Adding → Adding
 later k n = adding (n .graph) (first (k .found) (n .found))
 
 abbrev pub renewFor : List ℕ → Waits → Adding → ℕ → Awaits → Adding
-renewFor c w k t Nothing = k
-renewFor c w k t (For i) = later k (addOwners t (clearWaitEdges (k .graph) t) (owners c w i))
+renewFor counts w k t Nothing = k
+renewFor counts w k t (For i) = later k (addOwners t (clearWaitEdges (k .graph) t) (owners counts w i))
 
 unfoldable pub renew : List ℕ → Waits → Adding → ℕ → Adding
-renew c w k t = renewFor c w k t (intentOf w t)
+renew counts w k t = renewFor counts w k t (intentOf w t)
 
 abbrev pub start : Waits → Adding
 start w = adding (w .«wait_for_graph») none
 
 unfoldable pub renewAll : List ℕ → Waits → List ℕ → Adding
-renewAll c w ts = foldl (renew c w) (start w) ts
+renewAll counts w ts = foldl (renew counts w) (start w) ts
 
 abbrev pub refreshed : List ℕ → Waits → ℕ → Adding
-refreshed c w l = renewAll c w (upward 32 (waitersOf w l))
+refreshed counts w l = renewAll counts w (upward THREADS (waitersOf w l))
 
 unfoldable pub refresh : List ℕ → Waits → ℕ → Linking
-refresh c w l = linking w (refreshed c w l)
+refresh counts w l = linking w (refreshed counts w l)
 
 -- several locks, one after the other; keep the first path of all
 unfoldable pub refreshNext : List ℕ → Linking → ℕ → Linking
-refreshNext c s l = let r = refresh c (s .waits) l in record { waits = r .waits; found = first (s .found) (r .found) }
+refreshNext counts s l = let r = refresh counts (s .waits) l in record { waits = r .waits; found = first (s .found) (r .found) }
 
 unfoldable pub refreshLocks : List ℕ → Waits → List ℕ → Linking
-refreshLocks c w ls = foldl (refreshNext c) (record { waits = w; found = none }) ls
+refreshLocks counts w ls = foldl (refreshNext counts) (record { waits = w; found = none }) ls

@@ -2,6 +2,7 @@
 ghost use mathlib.Core.Path.{_≡_};
 ghost use Prim.Native.Nat.{_+_, _<_, _≤_};
 ghost use lib.ListN.{length};
+ghost use Rattle.sets.specs.Limits.{THREADS, LOCKS};
 ghost use Rattle.graph.specs.Promises.{Fit};
 ghost use Rattle.graph.specs.Code.{foundIn, listOf};
 ghost use Rattle.waits.specs.Tables.{InRange};
@@ -31,7 +32,7 @@ impl Waits {
     }
 
     // A path found is validated.
-    fn judge(self, counts: &[u8; 2048], s: Sought, buf: &mut [u8], from: usize) -> Judged
+    fn judge(self, counts: &[u8; Waits::COUNTS], s: Sought, buf: &mut [u8], from: usize) -> Judged
         requires { ⌜ InRange self × Fit (s .path) × (from + reportBytes ≤ length (now buf)) ⌝ }
         ensures { λ r. ⌜ Judges r (now (buf .entry)) (now (buf .exit)) from (judgeFound (now (counts .entry)) self (foundIn s)) ⌝ }
     {
@@ -44,20 +45,20 @@ impl Waits {
     }
 
     // Has l neither reader nor writer?
-    fn is_free(self, counts: &[u8; 2048], l: usize) -> bool
-        requires { ⌜ l < 64 ⌝ }
+    fn is_free(self, counts: &[u8; Waits::COUNTS], l: usize) -> bool
+        requires { ⌜ l < LOCKS ⌝ }
         ensures { λ r. ⌜ r ≡ free (now (counts .entry)) self l ⌝ }
     {
         if reader_mask(counts, l) == 0 {
             let writers = self.rwlock_writer;
-            return writers[l] == 32;
+            return writers[l] == Waits::NOBODY;
         }
         false
     }
 
     // A free lock blocks no writer.
-    fn is_free_for(self, counts: &[u8; 2048], i: WaitIntent) -> bool
-        requires { ⌜ i .«lock_id» < 64 ⌝ }
+    fn is_free_for(self, counts: &[u8; Waits::COUNTS], i: WaitIntent) -> bool
+        requires { ⌜ i .«lock_id» < LOCKS ⌝ }
         ensures { λ r. ⌜ r ≡ freeFor (i .mode) (now (counts .entry)) self (i .«lock_id») ⌝ }
     {
         let l = i.lock_id as usize;
@@ -70,7 +71,7 @@ impl Waits {
     }
 
     // A mutex's path must pass the filter.
-    fn passes_for(self, counts: &[u8; 2048], i: WaitIntent, cycle: Path) -> bool
+    fn passes_for(self, counts: &[u8; Waits::COUNTS], i: WaitIntent, cycle: Path) -> bool
         requires { ⌜ Fit cycle ⌝ }
         ensures { λ r. ⌜ r ≡ passesFor (i .mode) (now (counts .entry)) self (listOf cycle) ⌝ }
     {
@@ -83,8 +84,14 @@ impl Waits {
     }
 
     // Refresh l, validate a path.
-    pub fn settle(mut self, counts: &[u8; 2048], l: usize, buf: &mut [u8], from: usize) -> Judged
-        requires { ⌜ InRange self × (l < 64) × (from + reportBytes ≤ length (now buf)) ⌝ }
+    pub fn settle(
+        mut self,
+        counts: &[u8; Waits::COUNTS],
+        l: usize,
+        buf: &mut [u8],
+        from: usize,
+    ) -> Judged
+        requires { ⌜ InRange self × (l < LOCKS) × (from + reportBytes ≤ length (now buf)) ⌝ }
         ensures { λ r. ⌜ Judges r (now (buf .entry)) (now (buf .exit)) from (settle (now (counts .entry)) self l) ⌝ }
     {
         let k = self.refresh_waiters_for_lock(counts, l);
@@ -97,14 +104,14 @@ impl Waits {
     // Register, judge the path. One function for all modes, so that the tables are handed on once.
     pub fn attempt(
         self,
-        counts: &[u8; 2048],
+        counts: &[u8; Waits::COUNTS],
         t: usize,
         l: usize,
         mode: WaitMode,
         buf: &mut [u8],
         from: usize,
     ) -> Judged
-        requires { ⌜ InRange self × (t < 32) × (l < 64) × (from + reportBytes ≤ length (now buf)) ⌝ }
+        requires { ⌜ InRange self × (t < THREADS) × (l < LOCKS) × (from + reportBytes ≤ length (now buf)) ⌝ }
         ensures { λ r. ⌜ Judges r (now (buf .entry)) (now (buf .exit)) from (blockFor mode (now (counts .entry)) self t l) ⌝ }
     {
         let lock_id = l as u8;

@@ -2,6 +2,7 @@
 ghost use mathlib.Core.Path.{_≡_};
 ghost use Prim.Native.Nat.{_+_, _*_, _<_, _≤_};
 ghost use lib.ListN.{length};
+ghost use Rattle.sets.specs.Limits.{LOCKS};
 ghost use Rattle.sets.specs.Sets.{upward};
 ghost use Rattle.graph.specs.Promises.{Fit};
 ghost use Rattle.graph.specs.Code.{listOf};
@@ -17,8 +18,8 @@ use graph::Path;
 use sets::locks;
 
 // Does every lock of the set have a reader?
-fn all_read(counts: &[u8; 2048], common: u64) -> bool
-    ensures { λ r. ⌜ r ≡ allRead (now (counts .entry)) (upward 64 common) ⌝ }
+fn all_read(counts: &[u8; Waits::COUNTS], common: u64) -> bool
+    ensures { λ r. ⌜ r ≡ allRead (now (counts .entry)) (upward LOCKS common) ⌝ }
 {
     let mut left = common;
     while left != 0 {
@@ -50,7 +51,11 @@ impl Waits {
     }
 
     // Does the cycle pass: do its threads share no lock that nobody reads?
-    pub(crate) fn filter_cycle_by_common_locks(self, counts: &[u8; 2048], cycle: Path) -> bool
+    pub(crate) fn filter_cycle_by_common_locks(
+        self,
+        counts: &[u8; Waits::COUNTS],
+        cycle: Path,
+    ) -> bool
         requires { ⌜ Fit cycle ⌝ }
         ensures { λ r. ⌜ r ≡ passes (now (counts .entry)) self (listOf cycle) ⌝ }
     {

@@ -5,14 +5,17 @@ use crate::intent::Awaits;
 use crate::intent::Slot;
 use graph::Sought;
 use graph::WaitForGraph;
+use sets::LOCKS;
+use sets::NOBODY;
+use sets::THREADS;
 
 pub struct Waits {
     pub wait_for_graph: WaitForGraph,
-    pub thread_waits_for: [Slot; 32],
-    pub lock_waiters: [u32; 64],
-    pub thread_holds: [u64; 32],
-    pub mutex_owners: [u8; 64],
-    pub rwlock_writer: [u8; 64],
+    pub thread_waits_for: [Slot; THREADS],
+    pub lock_waiters: [u32; LOCKS],
+    pub thread_holds: [u64; THREADS],
+    pub mutex_owners: [u8; LOCKS],
+    pub rwlock_writer: [u8; LOCKS],
 }
 
 // The owners that block a wait, in order: the readers upward, then the last (32: none).
@@ -35,10 +38,14 @@ pub struct Judged {
 }
 
 impl Waits {
+    // The number that stands for no thread, as the tables have it.
+    pub const NOBODY: u8 = NOBODY as u8;
+    // A count for each thread and lock.
+    pub const COUNTS: usize = LOCKS * THREADS;
     // A report's entry: the thread and the lock that it awaits.
     pub const ENTRY_BYTES: usize = 2;
     // The longest report: 32 entries and their number.
-    pub const REPORT_BYTES: usize = 1 + 32 * Waits::ENTRY_BYTES;
+    pub const REPORT_BYTES: usize = 1 + THREADS * Waits::ENTRY_BYTES;
 
     pub fn new() -> Waits
         ensures { λ r. ⌜ r ≡ empty ⌝ }
@@ -48,11 +55,11 @@ impl Waits {
             wait_for_graph,
             thread_waits_for: [Slot {
                 awaits: Awaits::Nothing,
-            }; 32],
-            lock_waiters: [0u32; 64],
-            thread_holds: [0u64; 32],
-            mutex_owners: [32u8; 64],
-            rwlock_writer: [32u8; 64],
+            }; THREADS],
+            lock_waiters: [0u32; LOCKS],
+            thread_holds: [0u64; THREADS],
+            mutex_owners: [Waits::NOBODY; LOCKS],
+            rwlock_writer: [Waits::NOBODY; LOCKS],
         }
     }
 }

@@ -3,12 +3,13 @@ ghost use mathlib.Core.Path.{_≡_};
 ghost use mathlib.Core.List.{_++_};
 ghost use Prim.Native.Nat.{_+_, _<_, _≤_};
 ghost use lib.ListN.{length};
+ghost use Rattle.sets.specs.Limits.{THREADS, LOCKS, NOBODY};
+ghost use Rattle.waits.specs.Owners.{COUNTS, place, readers, owners, waitsFor};
 ghost use Rattle.sets.specs.Sets.{upward};
 ghost use Rattle.graph.specs.Graph.{one, clearWaitEdges};
 ghost use Rattle.graph.specs.Promises.{Fit};
 ghost use Rattle.graph.specs.Code.{listOf, added};
 ghost use Rattle.waits.specs.Tables.{InRange, intentOf, lockOf, withGraph};
-ghost use Rattle.waits.specs.Owners.{place, readers, owners, waitsFor};
 ghost use Rattle.waits.specs.Waiting.{unwaited, clear, setIntent, register, renewAll, refreshed, refreshLocks};
 ghost use Rattle.waits.specs.Validate.{valid, validate};
 ghost use Rattle.waits.specs.Report.{reportBytes};
@@ -25,26 +26,28 @@ use crate::tables::Waits;
 use graph::Added;
 use graph::Path;
 use graph::Sought;
+use sets::NOBODY;
+use sets::THREADS;
 use sets::locks;
 use sets::threads;
 
 // Where the count of lock l and thread t stands.
-pub fn place(l: usize, t: usize) -> usize
-    requires { ⌜ (l < 64) × (t < 32) ⌝ }
-    ensures { λ r. ⌜ (r ≡ place l t) × (r < 2048) ⌝ }
+pub fn place(t: usize, l: usize) -> usize
+    requires { ⌜ (l < LOCKS) × (t < THREADS) ⌝ }
+    ensures { λ r. ⌜ (r ≡ place t l) × (r < COUNTS) ⌝ }
 {
-    l * 32 + t
+    l * THREADS + t
 }
 
 // The readers of a lock, from its 32 counts.
-pub(crate) fn reader_mask(counts: &[u8; 2048], lock: usize) -> u32
-    requires { ⌜ lock < 64 ⌝ }
-    ensures { λ r. ⌜ upward 32 r ≡ readers (now (counts .entry)) lock ⌝ }
+pub(crate) fn reader_mask(counts: &[u8; Waits::COUNTS], lock: usize) -> u32
+    requires { ⌜ lock < LOCKS ⌝ }
+    ensures { λ r. ⌜ upward THREADS r ≡ readers (now (counts .entry)) lock ⌝ }
 {
     let mut m = 0u32;
     let mut t = 0;
-    while t < 32 {
-        let at = place(lock, t);
+    while t < THREADS {
+        let at = place(t, lock);
         if counts[at] != 0 {
             m = threads::with(m, t);
         }
@@ -54,7 +57,7 @@ pub(crate) fn reader_mask(counts: &[u8; 2048], lock: usize) -> u32
 }
 
 fn with_awaited(m: u64, s: Slot) -> u64
-    requires { ⌜ lockOf (s .awaits) < 64 ⌝ }
+    requires { ⌜ lockOf (s .awaits) < LOCKS ⌝ }
     ensures { λ r. ⌜ r ≡ withAwaited m (s .awaits) ⌝ }
 {
     let awaits = s.awaits;
@@ -69,7 +72,7 @@ fn with_awaited(m: u64, s: Slot) -> u64
 impl Waits {
     // Takes t out of its intent and its lock's waiters.
     fn forget_intent(mut self, t: usize) -> Waits
-        requires { ⌜ (t < 32) × InRange self ⌝ }
+        requires { ⌜ (t < THREADS) × InRange self ⌝ }
         ensures { λ r. ⌜ r ≡ unwaited self t (intentOf self t) ⌝ }
     {
         let slot = self.thread_waits_for[t];
@@ -87,7 +90,7 @@ impl Waits {
 
     // Drops all edges from t.
     fn unlink(mut self, t: usize) -> Waits
-        requires { ⌜ t < 32 ⌝ }
+        requires { ⌜ t < THREADS ⌝ }
         ensures { λ r. ⌜ r ≡ withGraph self (clearWaitEdges (self .«wait_for_graph») t) ⌝ }
     {
         let g = self.wait_for_graph;
@@ -100,7 +103,7 @@ impl Waits {
     }
 
     pub fn clear_wait_intent(self, t: usize) -> Waits
-        requires { ⌜ (t < 32) × InRange self ⌝ }
+        requires { ⌜ (t < THREADS) × InRange self ⌝ }
         ensures { λ r. ⌜ (r ≡ clear self t) × InRange r ⌝ }
     {
         let w = self.forget_intent(t);
@@ -108,7 +111,7 @@ impl Waits {
     }
 
     fn set_wait_intent(self, t: usize, i: WaitIntent) -> Waits
-        requires { ⌜ (t < 32) × InRange self × (i .«lock_id» < 64) ⌝ }
+        requires { ⌜ (t < THREADS) × InRange self × (i .«lock_id» < LOCKS) ⌝ }
         ensures { λ r. ⌜ (r ≡ setIntent self t i) × InRange r ⌝ }
     {
         let mut w = self.clear_wait_intent(t);
@@ -121,9 +124,9 @@ impl Waits {
         w
     }
 
-    pub fn incompatible_owners(self, counts: &[u8; 2048], i: WaitIntent) -> Owners
-        requires { ⌜ InRange self × (i .«lock_id» < 64) ⌝ }
-        ensures { λ r. ⌜ (upward 32 (r .readers) ++ one (r .last) ≡ owners (now (counts .entry)) self i) × (r .last ≤ 32) ⌝ }
+    pub fn incompatible_owners(self, counts: &[u8; Waits::COUNTS], i: WaitIntent) -> Owners
+        requires { ⌜ InRange self × (i .«lock_id» < LOCKS) ⌝ }
+        ensures { λ r. ⌜ (upward THREADS (r .readers) ++ one (r .last) ≡ owners (now (counts .entry)) self i) × (r .last ≤ NOBODY) ⌝ }
     {
         let l = i.lock_id as usize;
         let mode = i.mode;
@@ -141,19 +144,27 @@ impl Waits {
             WaitMode::RwWrite => {
                 let readers = reader_mask(counts, l);
                 let last = writers[l] as usize;
-                if last == 32 {
+                if last == NOBODY {
                     return Owners { readers, last };
                 }
                 if threads::has(readers, last) {
-                    return Owners { readers, last: 32 };
+                    return Owners {
+                        readers,
+                        last: NOBODY,
+                    };
                 }
                 Owners { readers, last }
             }
         }
     }
 
-    pub(crate) fn register_wait(self, counts: &[u8; 2048], t: usize, i: WaitIntent) -> Linked
-        requires { ⌜ (t < 32) × InRange self × (i .«lock_id» < 64) ⌝ }
+    pub(crate) fn register_wait(
+        self,
+        counts: &[u8; Waits::COUNTS],
+        t: usize,
+        i: WaitIntent,
+    ) -> Linked
+        requires { ⌜ (t < THREADS) × InRange self × (i .«lock_id» < LOCKS) ⌝ }
         ensures { λ r. ⌜ (r ≡ linked (register (now (counts .entry)) self t i)) × InRange (r .waits) ⌝ }
     {
         let mut w = self.set_wait_intent(t, i);
@@ -167,8 +178,8 @@ impl Waits {
     }
 
     // The edges of one waiter anew, where it has an intent; a path found before is kept.
-    fn renew(self, counts: &[u8; 2048], a: Added, t: usize) -> Added
-        requires { ⌜ (t < 32) × InRange self ⌝ }
+    fn renew(self, counts: &[u8; Waits::COUNTS], a: Added, t: usize) -> Added
+        requires { ⌜ (t < THREADS) × InRange self ⌝ }
         ensures { λ r. ⌜ r ≡ renewC (now (counts .entry)) self a t ⌝ }
     {
         let slots = self.thread_waits_for;
@@ -188,8 +199,8 @@ impl Waits {
     }
 
     // The graph after it, and the path: a refresh changes no other table.
-    pub fn refresh_waiters_for_lock(self, counts: &[u8; 2048], l: usize) -> Added
-        requires { ⌜ (l < 64) × InRange self ⌝ }
+    pub fn refresh_waiters_for_lock(self, counts: &[u8; Waits::COUNTS], l: usize) -> Added
+        requires { ⌜ (l < LOCKS) × InRange self ⌝ }
         ensures { λ r. ⌜ r ≡ added (refreshed (now (counts .entry)) self l) ⌝ }
     {
         let all = self.lock_waiters;
@@ -197,9 +208,9 @@ impl Waits {
         self.renew_all(counts, waiters)
     }
 
-    fn renew_all(self, counts: &[u8; 2048], waiters: u32) -> Added
+    fn renew_all(self, counts: &[u8; Waits::COUNTS], waiters: u32) -> Added
         requires { ⌜ InRange self ⌝ }
-        ensures { λ r. ⌜ r ≡ added (renewAll (now (counts .entry)) self (upward 32 waiters)) ⌝ }
+        ensures { λ r. ⌜ r ≡ added (renewAll (now (counts .entry)) self (upward THREADS waiters)) ⌝ }
     {
         let graph = self.wait_for_graph;
         let sought = Sought::missing();
@@ -214,9 +225,9 @@ impl Waits {
     }
 
     // The locks of a set, upward, each once; the first path of all is kept.
-    fn refresh_all(self, counts: &[u8; 2048], set: u64) -> Linked
+    fn refresh_all(self, counts: &[u8; Waits::COUNTS], set: u64) -> Linked
         requires { ⌜ InRange self ⌝ }
-        ensures { λ r. ⌜ (r ≡ linked (refreshLocks (now (counts .entry)) self (upward 64 set))) × InRange (r .waits) ⌝ }
+        ensures { λ r. ⌜ (r ≡ linked (refreshLocks (now (counts .entry)) self (upward LOCKS set))) × InRange (r .waits) ⌝ }
     {
         let sought = Sought::missing();
         let mut k = Linked {
@@ -250,8 +261,8 @@ impl Waits {
     }
 
     // Does t truly wait for u?
-    fn waits_for(self, counts: &[u8; 2048], t: usize, u: usize) -> bool
-        requires { ⌜ (t < 32) × (u < 32) × InRange self ⌝ }
+    fn waits_for(self, counts: &[u8; Waits::COUNTS], t: usize, u: usize) -> bool
+        requires { ⌜ (t < THREADS) × (u < THREADS) × InRange self ⌝ }
         ensures { λ r. ⌜ r ≡ waitsFor (now (counts .entry)) self t u ⌝ }
     {
         let slot = self.thread_waits_for[t];
@@ -268,7 +279,7 @@ impl Waits {
         threads::has(readers, u)
     }
 
-    fn validate_wait_cycle(self, counts: &[u8; 2048], cycle: Path) -> bool
+    fn validate_wait_cycle(self, counts: &[u8; Waits::COUNTS], cycle: Path) -> bool
         requires { ⌜ InRange self × Fit cycle ⌝ }
         ensures { λ r. ⌜ r ≡ valid (now (counts .entry)) self (listOf cycle) ⌝ }
     {
@@ -294,7 +305,7 @@ impl Waits {
     // Reports the cycle if it is true; else refreshes the awaited locks and reports the path found then, if that is.
     pub(crate) fn validated_deadlock_info(
         self,
-        counts: &[u8; 2048],
+        counts: &[u8; Waits::COUNTS],
         cycle: Path,
         buf: &mut [u8],
         from: usize,
@@ -323,8 +334,8 @@ impl Waits {
 
 impl Linked {
     // One lock more.
-    fn refresh_next(self, counts: &[u8; 2048], l: usize) -> Linked
-        requires { ⌜ (l < 64) × InRange (self .waits) ⌝ }
+    fn refresh_next(self, counts: &[u8; Waits::COUNTS], l: usize) -> Linked
+        requires { ⌜ (l < LOCKS) × InRange (self .waits) ⌝ }
         ensures { λ r. ⌜ (r ≡ refreshNextC (now (counts .entry)) self l) × InRange (r .waits) ⌝ }
     {
         let mut w = self.waits;

@@ -9,7 +9,7 @@ use Rattle.detector.proofs.rwlock.no_readers.Statement.{statement}
 use Rattle.detector.proofs.rwlock.no_readers.Tie as tie
 
 abbrev Inv-loop : tie.InvT-loop
-Inv-loop l r₀ t₀ r t = (t ≤ 32) × (r ≡ each (λ d k. setCount d l k 0) r₀ t)
+Inv-loop l r₀ t₀ r t = (t ≤ 32) × (r ≡ each (λ d k. setCount d k l 0) r₀ t)
 
 abbrev μ-loop : tie.MeasureT-loop
 μ-loop l r₀ t₀ r t = 32 - t
@@ -32,7 +32,7 @@ loop-less c = omega arith
 loop-again : tie.Need-loop-again Inv-loop μ-loop
 loop-again c =
     let l = c .before .before .loop in
-    (omega arith, rw (c .place .ensures .0) (ap (λ d. setCount d (c .before .before .before .args .l) (l .t) 0) (l .inv .1) ∙ each-next _ _ (l .t)))
+    (omega arith, rw (c .place .ensures .0) (ap (λ d. setCount d (l .t) (c .before .before .before .args .l) 0) (l .inv .1) ∙ each-next _ _ (l .t)))
 
 returns : tie.Need-returns Inv-loop μ-loop
 unfolding noReaders

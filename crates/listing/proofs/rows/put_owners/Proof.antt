@@ -11,7 +11,7 @@ use Rattle.listing.proofs.rows.put_owners.Statement.{statement}
 use Rattle.listing.proofs.rows.put_owners.Tie as tie
 
 abbrev Inv-loop : tie.InvT-loop
-Inv-loop out₀ at name owners l₀ to₀ out l to = (l ≤ length owners) × Partly at name (ownersItems owners) (along (λ k. ownerItem k (row owners k)) l (length owners - l)) out₀ at out to × (length out ≡ length out₀)
+Inv-loop out₀ at name owners l₀ to₀ out l to = (l ≤ length owners) × Partly at name (ownersItems owners) (along (λ k. ownerItem (row owners k) k) l (length owners - l)) out₀ at out to × (length out ≡ length out₀)
 
 abbrev μ-loop : tie.MeasureT-loop
 μ-loop out₀ at name owners l₀ to₀ out l to = length owners - l

@@ -11,7 +11,7 @@ use Rattle.listing.proofs.rows.put_readers_of.Statement.{statement}
 use Rattle.listing.proofs.rows.put_readers_of.Tie as tie
 
 abbrev Inv-loop : tie.InvT-loop
-Inv-loop out₀ start at name counts l t₀ to₀ out t to = (t ≤ 32) × Partly start name (readersOf counts l) (along (λ k. readerItem l k (countOf counts l k)) t (32 - t)) out₀ at out to × (length out ≡ length out₀)
+Inv-loop out₀ start at name counts l t₀ to₀ out t to = (t ≤ 32) × Partly start name (readersOf counts l) (along (λ k. readerItem k l (countOf counts k l)) t (32 - t)) out₀ at out to × (length out ≡ length out₀)
 
 abbrev μ-loop : tie.MeasureT-loop
 μ-loop out₀ start at name counts l t₀ to₀ out t to = 32 - t

@@ -56,7 +56,7 @@ returns c =
     let s = i .before .before .before .before in
     let a = s .args in
     redo (mutex-blocked (tables (a .self)) (a .t) (a .l) (a .o) (sym (i .before .was-blocked .ensures) ∙ i .if1 .taken))
-    (does-judges (a .self) _ _ _ _ (blockMutex (a .self .«rwlock_readers») (own (a .self .waits) (a .l) (hinted (ownerOf (a .self .waits) (a .l)) (a .o))) (a .t) (a .l))
+    (does-judges (a .self) _ _ _ _ (blockMutex (a .self .«rwlock_readers») (own (a .self .waits) (hinted (ownerOf (a .self .waits) (a .l)) (a .o)) (a .l)) (a .t) (a .l))
     (c .with-judged .ensures) (s .pre .0) (rw (k .before .before .before .counts .ensures, k .before .before .before .before .owned .ensures .0, h .hinted .ensures .0) at (k .attempt .ensures)))
 
 owned-requires-2 : tie.Need-owned-requires-2

@@ -18,14 +18,14 @@ use Rattle.detector.proofs.state.Detector.release_read.Statement.{state
 use Rattle.detector.proofs.state.Detector.release_read.Tie as tie
 
 -- the counts after one fell, and that one
-less : (c : tie.Joined1) → c .before .before .before .counted-down .result ≡ countDown (c .before .before .before .before .before .args .self .«rwlock_readers») (c .before .before .before .before .before .args .l) (c .before .before .before .before .before .args .t)
+less : (c : tie.Joined1) → c .before .before .before .counted-down .result ≡ countDown (c .before .before .before .before .before .args .self .«rwlock_readers») (c .before .before .before .before .before .args .t) (c .before .before .before .before .before .args .l)
 less c =
     let a = c .before .before .before .before .before .args in
-    c .before .before .before .counted-down .ensures ∙ ap (λ k. countDown k (a .l) (a .t)) (c .before .before .before .before .counts .ensures)
+    c .before .before .before .counted-down .ensures ∙ ap (λ k. countDown k (a .t) (a .l)) (c .before .before .before .before .counts .ensures)
 
 fallen : (c : tie.Joined1)
     → getD (c .before .before .before .counted-down .result) (c .before .place .result) 0
-    ≡ countOf (c .before .before .before .before .before .args .self .«rwlock_readers») (c .before .before .before .before .before .args .l) (c .before .before .before .before .before .args .t) - 1
+    ≡ countOf (c .before .before .before .before .before .args .self .«rwlock_readers») (c .before .before .before .before .before .args .t) (c .before .before .before .before .before .args .l) - 1
 fallen c =
     let a = c .before .before .before .before .before .args in
     let p = c .before .place .ensures in
@@ -35,7 +35,7 @@ fallen c =
 -- where the arms meet: the edges go where the count is 0 now
 met : (c : tie.Joined1)
     → c .if1 .w
-    ≡ cond (eqb (countOf (c .before .before .before .before .before .args .self .«rwlock_readers») (c .before .before .before .before .before .args .l) (c .before .before .before .before .before .args .t) - 1) 0)
+    ≡ cond (eqb (countOf (c .before .before .before .before .before .args .self .«rwlock_readers») (c .before .before .before .before .before .args .t) (c .before .before .before .before .before .args .l) - 1) 0)
     (loosen (c .before .before .before .before .before .args .self .waits) (c .before .before .before .before .before .args .t) (c .before .before .before .before .before .args .l))
     (c .before .before .before .before .before .args .self .waits)
 met c =
