@@ -22,7 +22,7 @@ use Rattle.graph.proofs.Good.{At, at-put, at-cut, emptied-row, good-remove-edge
 use Rattle.graph.proofs.Register.{Owned, register-good, register-ring}
 use Rattle.waits.specs.Tables.{noSlot, intentOf, waitersOf, withGraph, withIntents, own, write, hold, unhold, empty}
 use Rattle.waits.specs.Owners.{owners}
-use Rattle.waits.specs.Waiting.{Linking, unwaited, clear, setIntent, register, renewFor, renew, start, renewAll, refresh, refreshNext, refreshLocks}
+use Rattle.waits.specs.Waiting.{Linking, unwaited, clear, setIntent, register, renewFor, renew, renewStart, renewAll, refresh, refreshNext, refreshLocks}
 use Rattle.waits.specs.Validate.{names}
 use Rattle.waits.specs.declared.tables.Waits.{Waits}
 use Rattle.waits.specs.declared.intent.Slot.{Slot}
@@ -183,7 +183,7 @@ grows-all c w (t ∷ ts) k h g = grows-all c w ts (renew c w k t) (λ u i. h u (
 pub stepped-refresh : (c : List ℕ) (w : Waits) (l : ℕ) → Fine w → Stepped (refresh c w l)
 unfolding refresh renewAll
 stepped-refresh c w l f =
-    let r = grows-all c w (upward 32 (waitersOf w l)) (start w) (upward-lt 32 (waitersOf w l)) (record { good = f .graph; neat = tt }) in
+    let r = grows-all c w (upward 32 (waitersOf w l)) (renewStart w) (upward-lt 32 (waitersOf w l)) (record { good = f .graph; neat = tt }) in
     record { fine = fine-graph w _ (r .good) f; neat = r .neat }
 
 stepped-next : (c : List ℕ) (ls : List ℕ) (s : Linking) → Stepped s → Stepped (foldl (refreshNext c) s ls)

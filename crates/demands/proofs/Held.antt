@@ -19,7 +19,7 @@ use Rattle.graph.proofs.Good.{sized-clear}
 use Rattle.graph.proofs.Register.{register-sized}
 use Rattle.waits.specs.Tables.{intentOf, waitersOf, holdsOf, withGraph, withIntents, withHolds, own, write, hold, unhold, InRange}
 use Rattle.waits.specs.Owners.{owners}
-use Rattle.waits.specs.Waiting.{unwaited, clear, setIntent, register, renewFor, renew, start, renewAll, refresh}
+use Rattle.waits.specs.Waiting.{unwaited, clear, setIntent, register, renewFor, renew, renewStart, renewAll, refresh}
 use Rattle.waits.specs.declared.tables.Waits.{Waits}
 use Rattle.waits.specs.declared.intent.Slot.{Slot}
 use Rattle.waits.specs.declared.intent.WaitIntent.{WaitIntent}
@@ -136,7 +136,7 @@ sized-all c w (t ∷ ts) k h s = sized-all c w ts (renew c w k t) (λ u i. h u (
 
 pub held-refresh : (c : List ℕ) (w : Waits) (l : ℕ) → Held w → Held (refresh c w l .waits)
 unfolding refresh renewAll
-held-refresh c w l f = held-graph w _ (sized-all c w (upward 32 (waitersOf w l)) (start w) (upward-lt 32 (waitersOf w l)) (f .graph)) f
+held-refresh c w l f = held-graph w _ (sized-all c w (upward 32 (waitersOf w l)) (renewStart w) (upward-lt 32 (waitersOf w l)) (f .graph)) f
 
 -- ---- dropping edges
 

@@ -94,13 +94,13 @@ Apt x recorded t l Blocked = Unit
 Apt x recorded t l (Hinted o) = (o ≡ recorded) ⊎ Alone x t l
 
 -- the cycle that document 01 finds: the path that registering gives
-abbrev pub hinted : Waits → ℕ → Outcome → Waits
-hinted w l Took = w
-hinted w l Blocked = w
-hinted w l (Hinted o) = own w o l
+abbrev pub withHint : Waits → ℕ → Outcome → Waits
+withHint w l Took = w
+withHint w l Blocked = w
+withHint w l (Hinted o) = own w o l
 
 abbrev pub pathFound : Tables → ℕ → ℕ → Outcome → Option (List ℕ)
-pathFound x t l o = register (x .«rwlock_readers») (hinted (x .waits) l o) t (mutexOn l) .found
+pathFound x t l o = register (x .«rwlock_readers») (withHint (x .waits) l o) t (mutexOn l) .found
 
 -- all threads of p hold one lock that nobody reads
 pub record Shared (counts : List ℕ) (w : Waits) (p : List ℕ) : Type 0 where

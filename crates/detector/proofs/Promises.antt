@@ -28,7 +28,7 @@ use Rattle.waits.specs.Tables as waiting
 use Rattle.waits.proofs.Laws.{range-empty}
 use Rattle.detector.specs.declared.state.Queue.{Queue}
 use Rattle.detector.specs.declared.state.Condvars.{Condvars}
-use Rattle.detector.specs.Code.{emptyQueue, putWaits, putCounts, blocked, hinted}
+use Rattle.detector.specs.Code.{emptyQueue, putWaits, putCounts, wasBlocked, hinted}
 use Rattle.detector.specs.declared.state.Detector.{Detector}
 use Rattle.detector.specs.declared.reply.Done.{Done}
 
@@ -77,12 +77,12 @@ idle-judges c w l r b e s z = retell (sym (settle-idle c w l z)) (hush-judges r 
 
 -- ---- the rules by how the try came out
 
-pub as-taken : {A : Type 0} (F : Outcome → A) (o : Outcome) → blocked o ≡ false → F Took ≡ F o
+pub as-taken : {A : Type 0} (F : Outcome → A) (o : Outcome) → wasBlocked o ≡ false → F Took ≡ F o
 as-taken F Took e = refl
 as-taken F Blocked e = absurd (true≢false e)
 as-taken F (Hinted o) e = absurd (true≢false e)
 
-as-hinted : {A : Type 0} (F : Outcome → A) (G : ℕ → A) (b : ℕ) → G b ≡ F Blocked → ((h : ℕ) → G h ≡ F (Hinted h)) → (o : Outcome) → blocked o ≡ true → G (hinted b o) ≡ F o
+as-hinted : {A : Type 0} (F : Outcome → A) (G : ℕ → A) (b : ℕ) → G b ≡ F Blocked → ((h : ℕ) → G h ≡ F (Hinted h)) → (o : Outcome) → wasBlocked o ≡ true → G (hinted b o) ≡ F o
 as-hinted F G b p q Took e = absurd (false≢true e)
 as-hinted F G b p q Blocked e = p
 as-hinted F G b p q (Hinted h) e = q h
@@ -95,13 +95,13 @@ write-same : (w : Waits) (l : ℕ) → write w (writerOf w l) l ≡ w
 write-same w l = rw (set-getD (w .«rwlock_writer») l 0)
 
 module _ (x : Tables) (t l : ℕ) where
-  pub mutex-blocked : (o : Outcome) → blocked o ≡ true → acquireSlow x (own (x .waits) (hinted (ownerOf (x .waits) l) o) l) t l ≡ mutexAttempt x t l o
+  pub mutex-blocked : (o : Outcome) → wasBlocked o ≡ true → acquireSlow x (own (x .waits) (hinted (ownerOf (x .waits) l) o) l) t l ≡ mutexAttempt x t l o
   mutex-blocked = as-hinted (mutexAttempt x t l) (λ h. acquireSlow x (own (x .waits) h l) t l) _ (ap (λ w. acquireSlow x w t l) (own-same (x .waits) l)) (λ h. refl)
 
-  pub read-blocked : (o : Outcome) → blocked o ≡ true → acquireRead x (write (x .waits) (hinted (writerOf (x .waits) l) o) l) t l ≡ readAttempt x t l o
+  pub read-blocked : (o : Outcome) → wasBlocked o ≡ true → acquireRead x (write (x .waits) (hinted (writerOf (x .waits) l) o) l) t l ≡ readAttempt x t l o
   read-blocked = as-hinted (readAttempt x t l) (λ h. acquireRead x (write (x .waits) h l) t l) _ (ap (λ w. acquireRead x w t l) (write-same (x .waits) l)) (λ h. refl)
 
-  pub write-blocked : (o : Outcome) → blocked o ≡ true → acquireWrite x (write (x .waits) (hinted (writerOf (x .waits) l) o) l) t l ≡ writeAttempt x t l o
+  pub write-blocked : (o : Outcome) → wasBlocked o ≡ true → acquireWrite x (write (x .waits) (hinted (writerOf (x .waits) l) o) l) t l ≡ writeAttempt x t l o
   write-blocked = as-hinted (writeAttempt x t l) (λ h. acquireWrite x (write (x .waits) h l) t l) _ (ap (λ w. acquireWrite x w t l) (write-same (x .waits) l)) (λ h. refl)
 
 -- ---- a count that may rise

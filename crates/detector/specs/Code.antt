@@ -31,10 +31,10 @@ tailOf [] = []
 tailOf (p ∷ q) = q
 
 -- how a try came out: whether it was blocked, and who owns after a hint
-abbrev pub blocked : Outcome → Bool
-blocked Took = false
-blocked Blocked = true
-blocked (Hinted o) = true
+abbrev pub wasBlocked : Outcome → Bool
+wasBlocked Took = false
+wasBlocked Blocked = true
+wasBlocked (Hinted o) = true
 
 abbrev pub hinted : ℕ → Outcome → ℕ
 hinted b Took = b

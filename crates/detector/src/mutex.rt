@@ -10,7 +10,7 @@ ghost use Rattle.detector.specs.Mutex.{gain, clearNaming, purge, mutexAt
 ghost use Rattle.detector.specs.Refusals.{hintOf, bufferBytes};
 ghost use Rattle.detector.specs.State.{tables, Valid};
 ghost use Rattle.detector.specs.Promises.{Does};
-ghost use Rattle.detector.specs.Code.{blocked, hinted};
+ghost use Rattle.detector.specs.Code.{wasBlocked, hinted};
 use crate::reply::Done;
 use crate::state::Detector;
 use sets::NOBODY;
@@ -41,7 +41,7 @@ pub(crate) fn gained(mut w: Waits, t: usize, l: usize) -> Waits
 }
 
 pub(crate) fn was_blocked(o: Outcome) -> bool
-    ensures { λ r. ⌜ r ≡ blocked o ⌝ }
+    ensures { λ r. ⌜ r ≡ wasBlocked o ⌝ }
 {
     match o {
         Outcome::Took => false,

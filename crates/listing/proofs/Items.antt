@@ -20,7 +20,7 @@ use Rattle.detector.specs.State.{pairsOf, blankQueue}
 use Rattle.detector.specs.declared.state.Pair.{Pair}
 use Rattle.detector.specs.declared.state.Queue.{Queue}
 use Rattle.listing.specs.Listing.{tableText, two, along, below, membersOf, setItems, pairItem, queueItems}
-use Rattle.listing.specs.Code.{begun, opening, ending, more}
+use Rattle.listing.specs.Code.{lineBegun, opening, ending, more}
 use Rattle.listing.specs.Promises.{Roomy, Lists}
 
 -- ---- what stands before an item, and an item
@@ -32,7 +32,7 @@ abbrev headed : List ℕ → List ℕ
 headed name = text "table\t" ++ (name ++ text "\t")
 
 new-is : (name : List ℕ) → opening true name ≡ headed name
-unfolding begun
+unfolding lineBegun
 new-is name = append-assoc (text "table\t") name (text "\t")
 
 pub opening-new : {at start : ℕ} {d : List ℕ} (name : List ℕ) → at ≡ start → Room d at (opening (eqb at start) name) → Room d at (headed name)
@@ -42,16 +42,16 @@ pub opened-new : {at start r : ℕ} {d d′ : List ℕ} (name : List ℕ) → at
 opened-new {at} {start} {r} name e p = rw (eq-eqb at start e, new-is name) p
 
 pub opening-old : {at start : ℕ} {d : List ℕ} (name : List ℕ) → (at ≡ start → ⊥) → Room d at (opening (eqb at start) name) → Room d at (text "\t")
-unfolding begun
+unfolding lineBegun
 opening-old {at} {start} name e w = rw (ne-eqb at start e) at w
 
 pub opened-old : {at start r : ℕ} {d d′ : List ℕ} (name : List ℕ) → (at ≡ start → ⊥) → Put d at (text "\t") d′ r → Put d at (opening (eqb at start) name) d′ r
-unfolding begun
+unfolding lineBegun
 opened-old {at} {start} name e p = rw (ne-eqb at start e) p
 
 pub opened : (new : Bool) (name x : List ℕ) → more new name (x ∷ []) ≡ opening new name ++ x
 unfolding more tabbed
-opened new name x = rw append-nil (sym (append-assoc (begun new name) (text "\t") x))
+opened new name x = rw append-nil (sym (append-assoc (lineBegun new name) (text "\t") x))
 
 pub one-room : {start at : ℕ} {name x d : List ℕ} → Roomy start name (x ∷ []) d at → Room d at (opening (eqb at start) name ++ x)
 one-room {start} {at} {name} {x} h = rw opened at (h .room)
@@ -76,16 +76,16 @@ still new [] = new
 still new (x ∷ xs) = false
 
 more-append : (new : Bool) (name : List ℕ) (xs ys : List (List ℕ)) → more new name (xs ++ ys) ≡ more new name xs ++ more (still new xs) name ys
-unfolding more begun
+unfolding more lineBegun
 more-append new name [] ys = refl
 more-append new name (x ∷ xs) [] = ap (more new name) (append-nil (x ∷ xs)) ∙ sym (append-nil (more new name (x ∷ xs)))
-more-append new name (x ∷ xs) (y ∷ ys) = ap (λ (t : List ℕ). begun new name ++ t) (tabbed-append (x ∷ xs) (y ∷ ys)) ∙ sym (append-assoc (begun new name) (tabbed (x ∷ xs)) (tabbed (y ∷ ys)))
+more-append new name (x ∷ xs) (y ∷ ys) = ap (λ (t : List ℕ). lineBegun new name ++ t) (tabbed-append (x ∷ xs) (y ∷ ys)) ∙ sym (append-assoc (lineBegun new name) (tabbed (x ∷ xs)) (tabbed (y ∷ ys)))
 
 begun-still : (start at r : ℕ) (name : List ℕ) (xs : List (List ℕ)) → start ≤ at → r ≡ at + length (more (eqb at start) name xs) → eqb r start ≡ still (eqb at start) xs
 unfolding more tabbed
 begun-still start at r name [] h e = ap (λ (k : ℕ). eqb k start) (let z : r ≡ at = omega arith in z)
 begun-still start at r name (x ∷ xs) h e =
-    ne-eqb r start (λ q. omega (arith, length-append (begun (eqb at start) name) (tabbed (x ∷ xs))))
+    ne-eqb r start (λ q. omega (arith, length-append (lineBegun (eqb at start) name) (tabbed (x ∷ xs))))
 
 module _ {start at r : ℕ} {name : List ℕ} {xs : List (List ℕ)} {d d′ : List ℕ} (h : start ≤ at) (p : Lists start name xs d at d′ r) where
   both : (ys : List (List ℕ)) → more (eqb at start) name (xs ++ ys) ≡ more (eqb at start) name xs ++ more (eqb r start) name ys
@@ -138,7 +138,7 @@ module _ {start at r : ℕ} {name : List ℕ} {all rest : List (List ℕ)} {d d�
 -- ---- a whole line
 
 whole-line : (name : List ℕ) (xs : List (List ℕ)) → tableText name xs ≡ more true name xs ++ ending (still true xs)
-unfolding tableText more begun tabbed
+unfolding tableText more lineBegun tabbed
 whole-line name [] = refl
 whole-line name (x ∷ xs) = simp append-assoc
 

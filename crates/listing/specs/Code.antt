@@ -6,12 +6,12 @@ use Rattle.text.specs.Bytes.{text}
 use Rattle.text.specs.Decimal.{withTab, tabbed}
 
 -- the line's beginning, where nothing of it stands yet
-unfoldable pub begun : Bool → List ℕ → List ℕ
-begun true name = text "table" ++ withTab name
-begun false name = []
+unfoldable pub lineBegun : Bool → List ℕ → List ℕ
+lineBegun true name = text "table" ++ withTab name
+lineBegun false name = []
 
 abbrev pub opening : Bool → List ℕ → List ℕ
-opening new name = begun new name ++ text "\t"
+opening new name = lineBegun new name ++ text "\t"
 
 abbrev pub ending : Bool → List ℕ
 ending true = []
@@ -20,7 +20,7 @@ ending false = text "\n"
 -- items, the line's beginning before the first
 unfoldable pub more : Bool → List ℕ → List (List ℕ) → List ℕ
 more new name [] = []
-more new name (i ∷ is) = begun new name ++ tabbed (i ∷ is)
+more new name (i ∷ is) = lineBegun new name ++ tabbed (i ∷ is)
 
 -- room for all tables of a state
 abbrev pub tablesBytes : ℕ

@@ -1,6 +1,6 @@
 // Replay: a script, an answer for each of its lines, and the sums at the end.
-use runner::run_scripts;
+use runner::run_program;
 
 fn main() {
-    run_scripts(b"replay", false);
+    run_program(b"replay", false);
 }

@@ -73,7 +73,7 @@ fn run_file(
 }
 
 // Each script from the empty state.
-pub fn run_scripts(program: &[u8], tables: bool) {
+pub(crate) fn run_scripts(program: &[u8], tables: bool) {
     let mut inp = io::large_buffer();
     let mut out = out_buffer();
     let mut carry = [0u8; CARRY_BYTES];

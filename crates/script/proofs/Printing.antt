@@ -7,7 +7,7 @@ use lib.ListN.{length, length-append}
 use Rattle.text.specs.Decimal.{decimal, withTab, tabbed}
 use Rattle.text.specs.Promises.{Room}
 use Rattle.text.proofs.Digits.{decimal-bound}
-use Rattle.script.specs.Printed.{Parts, one, two, three, partsOf, outcomeText, partsText, eventText, hintsOf, numbersOf, Below, Within, eventBytes}
+use Rattle.script.specs.Printed.{Parts, one, two, three, partsOf, outcomeText, partsText, eventText, hintsOf, partsNumbers, AllBelow, EventBelow, eventBytes}
 use Rattle.script.specs.Code.{letters, keyed}
 use Rattle.waits.specs.declared.outcome.Outcome.{Outcome}
 use Rattle.waits.specs.declared.outcome.Outcome.the-variants as came
@@ -47,21 +47,21 @@ module _ (e : Event) (x : Record) (i : x ≡ keyed (partsOf e)) where
 wide : (n : ℕ) → n < 2 ^ 64 → length (withTab (decimal n)) ≤ 21
 wide n h = omega (arith, decimal-bound n h)
 
-wide-outcome : (o : Outcome) → Below (2 ^ 64) (hintsOf o) → length (withTab (outcomeText o)) ≤ 21
+wide-outcome : (o : Outcome) → AllBelow (2 ^ 64) (hintsOf o) → length (withTab (outcomeText o)) ≤ 21
 wide-outcome came.Took h = omega arith
 wide-outcome came.Blocked h = omega arith
 wide-outcome (came.Hinted n) h = wide n (h 0)
 
-parts-bound : (p : Parts) → Below (2 ^ 64) (numbersOf p) → length (partsText p) ≤ eventBytes
+parts-bound : (p : Parts) → AllBelow (2 ^ 64) (partsNumbers p) → length (partsText p) ≤ eventBytes
 parts-bound (one w a) h = rw (parts-held (one w a)) (omega (arith, wide a (h 0)))
 parts-bound (two w a b) h = rw (parts-held (two w a b)) (omega (arith, wide a (h 0), wide b (h 1), length-append (withTab (decimal a)) (withTab (decimal b))))
 parts-bound (three w a b o) h =
     rw (parts-held (three w a b o))
     (omega (arith, wide a (h 0), wide b (h 1), wide-outcome o (λ i. h (suc (suc i))), length-append (withTab (decimal a)) (withTab (decimal b) ++ withTab (outcomeText o)), length-append (withTab (decimal b)) (withTab (outcomeText o))))
 
-pub event-bound : (e : Event) → Within (2 ^ 64) e → length (eventText e) ≤ eventBytes
+pub event-bound : (e : Event) → EventBelow (2 ^ 64) e → length (eventText e) ≤ eventBytes
 unfolding eventText
 event-bound e h = parts-bound (partsOf e) h
 
-pub event-room : (d : List ℕ) (at : ℕ) (e : Event) → Within (2 ^ 64) e → at + eventBytes ≤ length d → Room d at (eventText e)
+pub event-room : (d : List ℕ) (at : ℕ) (e : Event) → EventBelow (2 ^ 64) e → at + eventBytes ≤ length d → Room d at (eventText e)
 event-room d at e h w = record { fits = omega (arith, event-bound e h) }

@@ -17,7 +17,7 @@ use Rattle.text.specs.Bytes.{same}
 use Rattle.script.specs.Outcomes.{outcomeOf}
 use Rattle.script.specs.Words.{Word, spelled, shape}
 use Rattle.script.specs.Lines.{afterTwo, afterOne, afterWord, lineOf}
-use Rattle.script.specs.Printed.{Parts, one, two, three, partsOf, outcomeText, partsText, eventText, hintsOf, numbersOf, Below, Within}
+use Rattle.script.specs.Printed.{Parts, one, two, three, partsOf, outcomeText, partsText, eventText, hintsOf, partsNumbers, AllBelow, EventBelow}
 use Rattle.sets.proofs.Lists.{both}
 use Rattle.waits.specs.declared.outcome.Outcome.{Outcome}
 use Rattle.waits.specs.declared.outcome.Outcome.the-variants as came
@@ -87,18 +87,18 @@ module _ (n : ℕ) (h : n < 1000) where
   number-short : length (decimal n) ≤ 3
   number-short = decimal-short 2 n (omega arith)
 
-pub outcome-back : (o : Outcome) → Below 1000 (hintsOf o) → outcomeOf (outcomeText o) ≡ outcome.Is o
+pub outcome-back : (o : Outcome) → AllBelow 1000 (hintsOf o) → outcomeOf (outcomeText o) ≡ outcome.Is o
 unfolding outcomeOf same
 outcome-back came.Took h = refl
 outcome-back came.Blocked h = refl
 outcome-back (came.Hinted n) h = hint-back n (h 0)
 
-outcome-tabless : (o : Outcome) → Below 1000 (hintsOf o) → tabless (outcomeText o) ≡ true
+outcome-tabless : (o : Outcome) → AllBelow 1000 (hintsOf o) → tabless (outcomeText o) ≡ true
 outcome-tabless came.Took h = refl
 outcome-tabless came.Blocked h = refl
 outcome-tabless (came.Hinted n) h = number-tabless n (h 0)
 
-outcome-short : (o : Outcome) → Below 1000 (hintsOf o) → length (outcomeText o) ≤ 4
+outcome-short : (o : Outcome) → AllBelow 1000 (hintsOf o) → length (outcomeText o) ≤ 4
 outcome-short came.Took h = omega arith
 outcome-short came.Blocked h = omega arith
 outcome-short (came.Hinted n) h = omega (arith, number-short n (h 0))
@@ -140,7 +140,7 @@ joined-read w fs g h = rw (le-leb (length (joined (spelled w ∷ fs))) 40 h, cut
 two-letters : (w : Word) → length (spelled w) ≡ 2
 two-letters w = ap length (spelling w .letters-are)
 
-parts-back : (p : Parts) → Below 1000 (numbersOf p) → lineOf (partsText p) ≡ made p
+parts-back : (p : Parts) → AllBelow 1000 (partsNumbers p) → lineOf (partsText p) ≡ made p
 unfolding partsText tabbed afterWord afterOne afterTwo
 parts-back (one w a) h =
     joined-read w (decimal a ∷ []) (number-tabless a (h 0), omega arith) (simp (length-append, two-letters) (omega (arith, number-short a (h 0))))
@@ -153,6 +153,6 @@ parts-back (three w a b o) h =
     ∙ rw (number-back a (h 0), number-back b (h 1), outcome-back o (λ i. h (suc (suc i))))
 
 -- one statement for all words: an event with numbers of at most 999, printed, reads back as itself
-pub reads-back : (e : Event) → Within 1000 e → lineOf (eventText e) ≡ line.Event e
+pub reads-back : (e : Event) → EventBelow 1000 e → lineOf (eventText e) ≡ line.Event e
 unfolding eventText
 reads-back e h = parts-back (partsOf e) h ∙ made-event e

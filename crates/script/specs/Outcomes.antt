@@ -11,9 +11,9 @@ use Rattle.script.specs.declared.outcome.OutcomeRead.{OutcomeRead}
 use Rattle.script.specs.declared.outcome.OutcomeRead.the-variants as outcome
 
 -- a number as a hint
-abbrev pub hint : NumberRead → OutcomeRead
-hint (number.Is h) = outcome.Is (Hinted h)
-hint number.Bad = outcome.Bad
+abbrev pub asHint : NumberRead → OutcomeRead
+asHint (number.Is h) = outcome.Is (Hinted h)
+asHint number.Bad = outcome.Bad
 
 unfoldable pub outcomeOf : List ℕ → OutcomeRead
-outcomeOf s = cond (same s (text "took")) (outcome.Is Took) (cond (same s (text "-")) (outcome.Is Blocked) (hint (numberOf s)))
+outcomeOf s = cond (same s (text "took")) (outcome.Is Took) (cond (same s (text "-")) (outcome.Is Blocked) (asHint (numberOf s)))

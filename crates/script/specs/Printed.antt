@@ -61,16 +61,16 @@ hintsOf outcome.Took = []
 hintsOf outcome.Blocked = []
 hintsOf (outcome.Hinted h) = h ∷ []
 
-abbrev pub numbersOf : Parts → List ℕ
-numbersOf (one w a) = a ∷ []
-numbersOf (two w a b) = a ∷ b ∷ []
-numbersOf (three w a b o) = a ∷ b ∷ hintsOf o
+abbrev pub partsNumbers : Parts → List ℕ
+partsNumbers (one w a) = a ∷ []
+partsNumbers (two w a b) = a ∷ b ∷ []
+partsNumbers (three w a b o) = a ∷ b ∷ hintsOf o
 
-abbrev pub Below : ℕ → List ℕ → Type 0
-Below m ns = (i : ℕ) → getD ns i 0 < m
+abbrev pub AllBelow : ℕ → List ℕ → Type 0
+AllBelow m ns = (i : ℕ) → getD ns i 0 < m
 
-abbrev pub Within : ℕ → Event → Type 0
-Within m e = Below m (numbersOf (partsOf e))
+abbrev pub EventBelow : ℕ → Event → Type 0
+EventBelow m e = AllBelow m (partsNumbers (partsOf e))
 
 -- room for an event with any numbers of 64 bits
 abbrev pub eventBytes : ℕ

@@ -19,7 +19,7 @@ use Rattle.graph.specs.declared.wait_for_graph.WaitForGraph.{WaitForGraph}
 use Rattle.graph.proofs.Fits.{Fits, fits-none, fits-first, fits-owners, one-lt}
 use Rattle.waits.specs.Tables.{noSlot, intentOf, lockOf, waitersOf, writerOf, ownerOf, withGraph, withIntents, own, write, empty, InRange}
 use Rattle.waits.specs.Owners.{readers, reads, thenWriter, ownersFor, owners}
-use Rattle.waits.specs.Waiting.{Linking, unwaited, clear, setIntent, register, renewFor, renew, start, renewAll, refreshed, refresh, refreshNext, refreshLocks}
+use Rattle.waits.specs.Waiting.{Linking, unwaited, clear, setIntent, register, renewFor, renew, renewStart, renewAll, refreshed, refresh, refreshNext, refreshLocks}
 use Rattle.waits.specs.declared.tables.Waits.{Waits}
 use Rattle.waits.specs.declared.intent.Slot.{Slot}
 use Rattle.waits.specs.declared.intent.WaitIntent.{WaitIntent}
@@ -137,7 +137,7 @@ fits-all c w (t ∷ ts) k f = fits-all c w ts (renew c w k t) (fits-renew c w k 
 
 pub fits-refreshed : (c : List ℕ) (w : Waits) (l : ℕ) → Fits (refreshed c w l .found)
 unfolding renewAll
-fits-refreshed c w l = fits-all c w (upward 32 (waitersOf w l)) (start w) fits-none
+fits-refreshed c w l = fits-all c w (upward 32 (waitersOf w l)) (renewStart w) fits-none
 
 pub fits-refresh : (c : List ℕ) (w : Waits) (l : ℕ) → Fits (refresh c w l .found)
 unfolding refresh

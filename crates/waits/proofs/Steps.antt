@@ -8,7 +8,7 @@ use Rattle.graph.specs.Code.{soughtOf, added}
 use Rattle.graph.specs.declared.wait_for_graph.Added.{Added}
 use Rattle.graph.proofs.Owners.{sooner-first}
 use Rattle.waits.specs.Tables.{intentOf, InRange}
-use Rattle.waits.specs.Waiting.{Linking, later, renewFor, renew, start, renewAll, refreshNext, refreshLocks}
+use Rattle.waits.specs.Waiting.{Linking, later, renewFor, renew, renewStart, renewAll, refreshNext, refreshLocks}
 use Rattle.waits.specs.Code.{linked, laterC, renewForC, renewC, refreshNextC}
 use Rattle.waits.specs.declared.tables.Waits.{Waits}
 use Rattle.waits.specs.declared.tables.Linked.{Linked}
@@ -38,9 +38,9 @@ unfolding renewAllC
 all-code c w [] k = refl
 all-code c w (t ∷ ts) k = ap (λ a. foldl (renewC c w) a ts) (renew-code c w k t) ∙ all-code c w ts (renew c w k t)
 
-pub renew-all-code : (c : List ℕ) (w : Waits) (ts : List ℕ) → renewAllC c w (added (start w)) ts ≡ added (renewAll c w ts)
+pub renew-all-code : (c : List ℕ) (w : Waits) (ts : List ℕ) → renewAllC c w (added (renewStart w)) ts ≡ added (renewAll c w ts)
 unfolding renewAll
-renew-all-code c w ts = all-code c w ts (start w)
+renew-all-code c w ts = all-code c w ts (renewStart w)
 
 refresh-code : (c : List ℕ) (s : Linking) (l : ℕ) → refreshNextC c (linked s) l ≡ linked (refreshNext c s l)
 unfolding refreshNextC refreshNext

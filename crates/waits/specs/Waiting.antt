@@ -53,11 +53,11 @@ renewFor counts w k t (For i) = later k (addOwners t (clearWaitEdges (k .graph) 
 unfoldable pub renew : List ℕ → Waits → Adding → ℕ → Adding
 renew counts w k t = renewFor counts w k t (intentOf w t)
 
-abbrev pub start : Waits → Adding
-start w = adding (w .«wait_for_graph») none
+abbrev pub renewStart : Waits → Adding
+renewStart w = adding (w .«wait_for_graph») none
 
 unfoldable pub renewAll : List ℕ → Waits → List ℕ → Adding
-renewAll counts w ts = foldl (renew counts w) (start w) ts
+renewAll counts w ts = foldl (renew counts w) (renewStart w) ts
 
 abbrev pub refreshed : List ℕ → Waits → ℕ → Adding
 refreshed counts w l = renewAll counts w (upward THREADS (waitersOf w l))
