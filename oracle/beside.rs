@@ -6,16 +6,16 @@
 //!   beside load NAME SEED LINES         a script of the benchmark
 //!   beside sample FOLDER [--joined]     the fixed list
 //!   beside measure RUNS FILE PROGRAM..  CPU microseconds and peak KB of each, interleaved
-//!   beside dearest PROGRAM..            what one event can cost
+//!   beside slowest-event PROGRAM..            what one event can cost
 //!   beside kinds                        the kinds and what they are after
 //!
 //! A PROGRAM is a path, with words behind blanks if it needs any.
 mod clock;
-mod dearest;
-mod runner;
+mod slowest;
+mod compare;
 mod scripts;
 
-use runner::{Desk, Difference, Feed, Program};
+use compare::{Desk, Difference, Feed, Program};
 use std::collections::BTreeMap;
 use std::io::Write;
 use std::path::{Path, PathBuf};
@@ -35,7 +35,7 @@ fn main() {
             sample(Path::new(&words[1]), words.get(2).is_some_and(|w| w == "--joined"))
         }
         Some("measure") if words.len() >= 4 => measure(&words[1..]),
-        Some("dearest") if words.len() >= 2 => dearest::search(&words[1..], &bin()),
+        Some("slowest-event") if words.len() >= 2 => slowest::search(&words[1..], &bin()),
         Some("kinds") => {
             for (kind, about) in scripts::KINDS {
                 println!("{kind}\t{about}");
@@ -46,7 +46,7 @@ fn main() {
 }
 
 fn usage() -> ! {
-    eprintln!("beside: run, make, load, sample, measure, dearest or kinds; see README.md");
+    eprintln!("beside: run, make, load, sample, measure, slowest-event or kinds; see README.md");
     std::process::exit(2);
 }
 
@@ -207,8 +207,8 @@ impl Runner {
     fn check_session(&self, name: &str, text: &str, says: &str) {
         let script = scripts::session(text);
         self.desk.put(&script);
-        let out = runner::answers_only(&self.desk.run(&self.ordered, &script, Feed::File));
-        let shown: Vec<String> = runner::split(&out).iter().map(|l| show(l)).filter(|l| !l.contains(" ok ")).collect();
+        let out = compare::answers_only(&self.desk.run(&self.ordered, &script, Feed::File));
+        let shown: Vec<String> = compare::split(&out).iter().map(|l| show(l)).filter(|l| !l.contains(" ok ")).collect();
         if shown.join(",") != says {
             println!("DIFFERENT: the ordered copy and the documents, session {name}: {text}");
             println!("    documents:    {says}");
@@ -235,21 +235,21 @@ impl Runner {
         }
         if let Some(under) = &self.under {
             let got = self.desk.run(under, script, feed);
-            if let Some(d) = runner::difference(&expected, &got) {
+            if let Some(d) = compare::difference(&expected, &got) {
                 return Some((Pair::Tables, d));
             }
         }
         if let Some(replay) = &self.replay {
             let got = self.desk.run(replay, script, feed);
-            if let Some(d) = runner::difference(&runner::answers_only(&expected), &got) {
+            if let Some(d) = compare::difference(&compare::answers_only(&expected), &got) {
                 return Some((Pair::Replay, d));
             }
         }
         if scripts::is_single(kind) {
-            let lines = runner::split(script);
-            let n = runner::single_lines(&lines, &expected);
+            let lines = compare::split(script);
+            let n = compare::single_lines(&lines, &expected);
             *beside += n;
-            let part = runner::join(&lines[..n]);
+            let part = compare::join(&lines[..n]);
             for pair in [Pair::Untouched, Pair::ReplayUntouched] {
                 if let Some(d) = self.compare(pair, &part, feed) {
                     return Some((pair, d));
@@ -263,16 +263,16 @@ impl Runner {
     fn compare(&self, pair: Pair, script: &[u8], feed: Feed) -> Option<Difference> {
         self.desk.put(script);
         let (left, right) = self.outputs(pair, script, feed)?;
-        runner::difference(&left, &right)
+        compare::difference(&left, &right)
     }
 
     fn outputs(&self, pair: Pair, script: &[u8], feed: Feed) -> Option<(Vec<u8>, Vec<u8>)> {
         let run = |p: &Program| self.desk.run(p, script, feed);
         Some(match pair {
             Pair::Tables => (run(&self.ordered), run(self.under.as_ref()?)),
-            Pair::Replay => (runner::answers_only(&run(&self.ordered)), run(self.replay.as_ref()?)),
+            Pair::Replay => (compare::answers_only(&run(&self.ordered)), run(self.replay.as_ref()?)),
             Pair::Untouched => (run(&self.untouched), run(&self.ordered)),
-            Pair::ReplayUntouched => (runner::answers_only(&run(&self.untouched)), run(self.replay.as_ref()?)),
+            Pair::ReplayUntouched => (compare::answers_only(&run(&self.untouched)), run(self.replay.as_ref()?)),
         })
     }
 
@@ -287,15 +287,15 @@ impl Runner {
 
     /// Cuts the script down and says where the two part.
     fn tell(&self, kind: &str, name: &str, pair: Pair, script: Vec<u8>, feed: Feed, brief: bool, total: usize) {
-        let mut lines = runner::split(&script);
+        let mut lines = compare::split(&script);
         let untouched = matches!(pair, Pair::Untouched | Pair::ReplayUntouched);
         let mut differs = |lines: &[Vec<u8>]| {
-            let script = runner::join(lines);
+            let script = compare::join(lines);
             if untouched {
                 // Only what stays within the kind may be held beside hash maps.
                 self.desk.put(&script);
                 let tables = self.desk.run(&self.ordered, &script, feed);
-                if runner::single_lines(lines, &tables) < lines.len() {
+                if compare::single_lines(lines, &tables) < lines.len() {
                     return false;
                 }
             }
@@ -306,30 +306,30 @@ impl Runner {
             if untouched {
                 self.desk.put(&script);
                 let tables = self.desk.run(&self.ordered, &script, feed);
-                lines.truncate(runner::single_lines(&lines, &tables));
+                lines.truncate(compare::single_lines(&lines, &tables));
             }
-            let first = self.compare(pair, &runner::join(&lines), feed);
+            let first = self.compare(pair, &compare::join(&lines), feed);
             if let Some(n) = first.and_then(|d| d.script_line) {
                 let shorter = &lines[..n.min(lines.len())];
                 if differs(shorter) {
                     lines = shorter.to_vec();
                 }
             }
-            lines = runner::cut(lines, &mut differs);
+            lines = compare::cut(lines, &mut differs);
             // A row of 30 threads cannot be cut to one of two: other scripts may say it shorter.
             if !untouched && lines.len() > LONG {
                 if let Some(other) = self.find_short(pair) {
-                    let other = runner::cut(runner::split(&other), &mut differs);
+                    let other = compare::cut(compare::split(&other), &mut differs);
                     if other.len() < lines.len() {
                         lines = other;
                     }
                 }
             }
         }
-        let short = runner::join(&lines);
+        let short = compare::join(&lines);
         self.desk.put(&short);
         let (left, right) = self.outputs(pair, &short, feed).expect("both programs");
-        let d = runner::difference(&left, &right).expect("a difference");
+        let d = compare::difference(&left, &right).expect("a difference");
 
         if brief {
             let mut shown = runs_of(&lines.iter().take(400).map(|l| show(l)).collect::<Vec<_>>());
@@ -500,13 +500,13 @@ fn sample(folder: &Path, joined: bool) {
             script.extend_from_slice(&back_to_empty(&out));
             assert!(last_tables(&run(&script)).is_empty(), "the way back to the empty state");
         }
-        lines = runner::split(&script).len();
+        lines = compare::split(&script).len();
         std::fs::write(folder.join("joined.script"), &script).expect("a file of the sample");
         std::fs::write(folder.join("joined.tables"), run(&script)).expect("a file of the sample");
     } else {
         for (i, (name, script)) in all.iter().enumerate() {
             let stem = format!("{:02}-{name}", i + 1);
-            lines += runner::split(script).len();
+            lines += compare::split(script).len();
             std::fs::write(folder.join(format!("{stem}.script")), script).expect("a file of the sample");
             std::fs::write(folder.join(format!("{stem}.tables")), run(script)).expect("a file of the sample");
         }

@@ -1,5 +1,5 @@
 //! CPU time and peak memory of one run of a program, as the system counts them (Linux, 64 bits).
-use crate::runner::Program;
+use crate::compare::Program;
 use std::fs::File;
 use std::path::Path;
 use std::process::{Child, Stdio};

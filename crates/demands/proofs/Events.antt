@@ -7,7 +7,7 @@ use Prim.Native.Nat.{ℕ, suc, _<_}
 use native.Mathlib.Omega.{arith}
 use lib.Dec.{eqb, ltb, lit≤}
 use lib.ListN.{take}
-use borrow.Author.Tests.{eqb-true, ne-eqb}
+use borrow.Author.Tests.{eqb-true}
 use Rattle.waits.specs.Tables.{ownerOf}
 use Rattle.waits.specs.Report.{Report, Judging, quiet}
 use Rattle.waits.specs.Attempt.{block, blockMutex, readOn, writeOn, free, blockWrite}

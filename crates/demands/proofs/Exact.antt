@@ -26,7 +26,8 @@ use Rattle.graph.proofs.Ways.{no-cycle, acyclic-within, ring-map, ring-cycle}
 use Rattle.graph.proofs.Good.{cleared-edge}
 use Rattle.graph.proofs.Register.{register-ring, register-none}
 use Rattle.waits.specs.Tables.{noSlot, intentOf, holdsOf, ownerOf, writerOf, withGraph, own, write}
-use Rattle.waits.specs.Owners.{countOf, reads, readers, thenWriter, ownersFor, owners, blocking, waitsFor}
+use Rattle.waits.specs.Counts.{countOf, reads, readers}
+use Rattle.waits.specs.Owners.{thenWriter, ownersFor, owners, blocking, waitsFor}
 use Rattle.waits.specs.Waiting.{unwaited, clear, setIntent, register}
 use Rattle.waits.specs.Filter.{nothing, allHold, nobodyReads, commonLocks, passes}
 use Rattle.waits.specs.Report.{Judging, quiet, reporting}

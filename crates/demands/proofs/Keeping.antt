@@ -12,7 +12,7 @@ use Rattle.sets.proofs.Digits.{with-lt, without-le}
 use Rattle.sets.proofs.Below.{each-keeps}
 use Rattle.sets.proofs.Tables.{set-all}
 use Rattle.waits.specs.Tables.{intentOf, ownerOf, writerOf, withIntents, own, write, hold, unhold}
-use Rattle.waits.specs.Owners.{place, countOf}
+use Rattle.waits.specs.Counts.{place, countOf, countUp, countDown, noReaders, setCount}
 use Rattle.waits.specs.Waiting.{Linking, clear, register, refresh, refreshNext, refreshLocks}
 use Rattle.waits.specs.Filter.{passes}
 use Rattle.waits.specs.Report.{quiet, reporting}
@@ -24,7 +24,7 @@ use Rattle.waits.specs.declared.outcome.Outcome.the-variants.{Took, Blocked, Hi
 use Rattle.waits.specs.declared.outcome.Tried.the-variants.{Taken, Missed}
 use Rattle.detector.specs.Tables.{Tables, noCvWait, blankCvWait, queueOf, withWaits, withCounts, withQueue, withWoken, silent}
 use Rattle.detector.specs.Mutex.{acquired, completeAcquire, acquireSlow, released, releaseMutex, clearNaming, unholdAll, purge, destroyMutex}
-use Rattle.detector.specs.RwLock.{countUp, countDown, completeRead, acquireRead, tryRead, loosen, releaseRead, writeAcquired, completeWrite, acquireWrite, writeReleased, releaseWrite, noReaders, setCount, destroyRwLock}
+use Rattle.detector.specs.RwLock.{completeRead, acquireRead, tryRead, loosen, releaseRead, writeAcquired, completeWrite, acquireWrite, writeReleased, releaseWrite, destroyRwLock}
 use Rattle.detector.specs.Condvar.{condvarAt, createCondvar, forget, destroyCondvar, beginWait, Woken, attempted, wake, wakeAll, notifyFirst, notifyOne, notifyAll, isPair, leave, endWait}
 use Rattle.detector.specs.Events.{apply}
 use Rattle.detector.specs.Refusals.{Inside, numbersOf, fullCount, full, refusal}

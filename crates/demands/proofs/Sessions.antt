@@ -7,10 +7,11 @@ use Rattle.demands.specs.Reached.{reach}
 use Rattle.detector.specs.Refusals.{refusal, outside}
 use Rattle.detector.specs.Stuck.{stuckCount, trueWaits, anyBack}
 use Rattle.detector.specs.Mutex.{acquired, completeAcquire, acquireSlow, released, releaseMutex, clearNaming, unholdAll, purge, destroyMutex}
-use Rattle.detector.specs.RwLock.{countUp, countDown, completeRead, acquireRead, tryRead, loosen, releaseRead, writeReleased, releaseWrite, writeAcquired, completeWrite, acquireWrite, noReaders, destroyRwLock}
+use Rattle.waits.specs.Counts.{countUp, countDown, noReaders, readers}
+use Rattle.detector.specs.RwLock.{completeRead, acquireRead, tryRead, loosen, releaseRead, writeReleased, releaseWrite, writeAcquired, completeWrite, acquireWrite, destroyRwLock}
 use Rattle.detector.specs.Condvar.{createCondvar, forget, destroyCondvar, beginWait, attempted, wake, wakeAll, notifyOne, notifyAll, leave, endWait}
 use Rattle.waits.specs.Waiting.{clear, setIntent, register, renew, renewAll, refresh, refreshNext, refreshLocks}
-use Rattle.waits.specs.Owners.{readers, waitsFor}
+use Rattle.waits.specs.Owners.{waitsFor}
 use Rattle.waits.specs.Filter.{allHold, commonLocks}
 use Rattle.waits.specs.Validate.{around, valid, someAwaits, awaitedLocks, checked, validate}
 use Rattle.waits.specs.Attempt.{settle, block, blockMutex, blockWrite}

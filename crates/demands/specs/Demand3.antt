@@ -13,7 +13,8 @@ use Rattle.sets.specs.Sets.{has}
 use Rattle.graph.specs.Ways.{Ring, Cycle}
 use Rattle.graph.specs.Graph.{Edge}
 use Rattle.waits.specs.Tables.{intentOf, holdsOf, ownerOf, writerOf, own}
-use Rattle.waits.specs.Owners.{countOf, owners}
+use Rattle.waits.specs.Counts.{countOf}
+use Rattle.waits.specs.Owners.{owners}
 use Rattle.waits.specs.Waiting.{register}
 use Rattle.waits.specs.Validate.{names}
 use Rattle.waits.specs.Attempt.{mutexOn}

@@ -6,7 +6,7 @@ use Prim.Native.Nat.{ℕ, _<_, _≤_, _^_}
 use lib.ListN.{getD, length}
 use Rattle.sets.specs.Limits.{THREADS, LOCKS}
 use Rattle.detector.specs.Limits.{CONDVARS, PLACES}
-use Rattle.waits.specs.Owners.{COUNTS}
+use Rattle.waits.specs.Counts.{COUNTS}
 use Rattle.sets.specs.Sets.{has}
 use Rattle.graph.specs.Search.{row}
 use Rattle.graph.specs.Graph.{Good}

@@ -8,7 +8,7 @@ use lib.Dec.{ltb, eqb, lit≤}
 use lib.ListN.{getD, length, List·getD-map}
 use lib.Seq.{length-take-le}
 use borrow.Author.Tests.{ltb-true, ltb-false, le-ltb}
-use Rattle.waits.specs.Owners.{countOf}
+use Rattle.waits.specs.Counts.{countOf}
 use Rattle.waits.specs.declared.outcome.Outcome.the-variants.{Took, Blocked, Hinted}
 use Rattle.waits.specs.declared.outcome.Tried.the-variants.{Taken, Missed}
 use Rattle.detector.specs.Tables.{Tables, queueOf}

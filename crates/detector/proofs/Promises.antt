@@ -19,8 +19,8 @@ use Rattle.waits.specs.declared.outcome.Outcome.the-variants.{Took, Blocked, Hi
 use Rattle.waits.proofs.Judging.{retell, hush-judges, laid-none, laid-length, settle-idle}
 use Rattle.detector.specs.Tables.{Tables, Effect, noPair, noCvWait, blankCvWait, withWaits, withCounts, silent, withJudging}
 use Rattle.detector.specs.Mutex.{acquireSlow, mutexAttempt}
-use Rattle.detector.specs.RwLock.{countDown, acquireRead, readAttempt, acquireWrite, writeAttempt}
-use Rattle.waits.specs.Owners.{place, countOf}
+use Rattle.waits.specs.Counts.{countDown, place, countOf}
+use Rattle.detector.specs.RwLock.{acquireRead, readAttempt, acquireWrite, writeAttempt}
 use Rattle.detector.specs.Refusals.{fullCount}
 use Rattle.detector.specs.State.{tables, blankQueue, Queued, ValidCvWait, Valid}
 use Rattle.detector.specs.Promises.{Does}

@@ -5,7 +5,7 @@ use lib.Dec.{ltb, eqb}
 use lib.ListN.{length}
 use Rattle.sets.specs.Limits.{THREADS, LOCKS}
 use Rattle.detector.specs.Limits.{CONDVARS, PLACES}
-use Rattle.waits.specs.Owners.{countOf}
+use Rattle.waits.specs.Counts.{countOf}
 use Rattle.waits.specs.Report.{reportBytes}
 use Rattle.waits.specs.declared.outcome.Outcome.{Outcome}
 use Rattle.waits.specs.declared.outcome.Outcome.the-variants.{Took, Blocked, Hinted}

@@ -1,15 +1,12 @@
 -- The events of a readers-writer lock: ra, rc, rt, rr, wa, wc, wr, rd. Reads never enter the holds.
-use mathlib.Core.List.{List}
 use mathlib.Core.Bool.{cond}
-use Prim.Native.Nat.{ℕ, _+_, _-_}
+use Prim.Native.Nat.{ℕ, _-_}
 use lib.Dec.{eqb}
-use lib.ListN.{set}
 use Rattle.sets.specs.Limits.{THREADS, NOBODY}
 use Rattle.sets.specs.Sets.{upward}
-use Rattle.sets.specs.Below.{each}
 use Rattle.graph.specs.Graph.{removeEdgesTo}
 use Rattle.waits.specs.Tables.{waitersOf, writerOf, withGraph, write, unhold}
-use Rattle.waits.specs.Owners.{place, countOf}
+use Rattle.waits.specs.Counts.{countOf, countUp, countDown, noReaders}
 use Rattle.waits.specs.Waiting.{clear, refresh}
 use Rattle.waits.specs.Attempt.{settle, block, readOn, blockWrite}
 use Rattle.waits.specs.declared.tables.Waits.{Waits}
@@ -19,16 +16,6 @@ use Rattle.waits.specs.declared.outcome.Tried.{Tried}
 use Rattle.waits.specs.declared.outcome.Tried.the-variants.{Taken, Missed}
 use Rattle.detector.specs.Tables.{Tables, Effect, withWaits, withCounts, silent, withJudging}
 use Rattle.detector.specs.Mutex.{gain, purge}
-
--- the counts with n for lock l and thread t
-abbrev pub setCount : List ℕ → ℕ → ℕ → ℕ → List ℕ
-setCount counts t l n = set counts (place t l) n
-
-unfoldable pub countUp : List ℕ → ℕ → ℕ → List ℕ
-countUp counts t l = setCount counts t l (countOf counts t l + 1)
-
-unfoldable pub countDown : List ℕ → ℕ → ℕ → List ℕ
-countDown counts t l = setCount counts t l (countOf counts t l - 1)
 
 -- rc t l: count + 1; clear t; no refresh
 unfoldable pub completeRead : Tables → ℕ → ℕ → Effect
@@ -86,8 +73,5 @@ unfoldable pub releaseWrite : Tables → ℕ → ℕ → Effect
 releaseWrite x t l = silent (withWaits x (loosen (writeReleased (x .waits) t l) t l))
 
 -- rd l: no writer, no readers, out of all holds, no waiters; intents and edges stay
-unfoldable pub noReaders : List ℕ → ℕ → List ℕ
-noReaders counts l = each (λ d t. setCount d t l 0) counts THREADS
-
 unfoldable pub destroyRwLock : Tables → ℕ → Effect
 destroyRwLock x l = silent (withCounts x (purge (write (x .waits) NOBODY l) l) (noReaders (x .«rwlock_readers») l))

@@ -4,7 +4,7 @@ use Prim.Native.Nat.{ℕ}
 use lib.ListN.{getD, set, replicate}
 use Rattle.sets.specs.Limits.{THREADS}
 use Rattle.detector.specs.Limits.{CONDVARS, NONE}
-use Rattle.waits.specs.Owners.{COUNTS}
+use Rattle.waits.specs.Counts.{COUNTS}
 use Rattle.waits.specs.Tables as waiting
 use Rattle.waits.specs.Report.{Report, Judging}
 use Rattle.waits.specs.declared.tables.Waits.{Waits}

@@ -6,7 +6,7 @@ use Prim.Native.Nat.{ℕ, _<_, _^_}
 use lib.ListN.{getD, length}
 use Rattle.sets.specs.Limits.{THREADS, LOCKS}
 use Rattle.detector.specs.Limits.{CONDVARS, PLACES}
-use Rattle.waits.specs.Owners.{COUNTS}
+use Rattle.waits.specs.Counts.{COUNTS}
 use Rattle.waits.specs.Tables.{intentOf, lockOf}
 use Rattle.detector.specs.Tables.{noPair, blankCvWait}
 use Rattle.detector.specs.State.{blankQueue}

@@ -5,8 +5,8 @@ ghost use Prim.Native.Nat.{ℕ, _<_, _≤_};
 ghost use lib.ListN.{length};
 ghost use Rattle.sets.specs.Limits.{THREADS, LOCKS, NOBODY};
 ghost use Rattle.waits.specs.Tables.{InRange, withGraph, write};
-ghost use Rattle.waits.specs.Owners.{countOf};
-ghost use Rattle.detector.specs.RwLock.{countUp, countDown, noReaders, writeReleased, loosen, readAttempt, completeRead, readTry, releaseRead, writeAttempt, completeWrite, releaseWrite, destroyRwLock};
+ghost use Rattle.waits.specs.Counts.{countOf};
+ghost use Rattle.detector.specs.RwLock.{writeReleased, loosen, readAttempt, completeRead, readTry, releaseRead, writeAttempt, completeWrite, releaseWrite, destroyRwLock};
 ghost use Rattle.detector.specs.Refusals.{hintOf, fullAttempt, fullTry, bufferBytes};
 ghost use Rattle.detector.specs.State.{tables, Valid};
 ghost use Rattle.detector.specs.Promises.{Does};
@@ -24,6 +24,9 @@ use waits::Outcome;
 use waits::Tried;
 use waits::WaitMode;
 use waits::Waits;
+use waits::counted_down;
+use waits::counted_up;
+use waits::no_readers;
 use waits::place;
 
 fn written_by(mut w: Waits, t: usize, l: usize) -> Waits
@@ -58,44 +61,6 @@ fn loosened(w: Waits, t: usize, l: usize) -> WaitForGraph
         return g;
     }
     g.remove_edges_to(waiters, t)
-}
-
-fn counted_up(counts: [u8; Waits::COUNTS], t: usize, l: usize) -> [u8; Waits::COUNTS]
-    requires { ⌜ (t < THREADS) × (l < LOCKS) × (countOf counts t l ≡ 255 → ⊥) ⌝ }
-    ensures { λ r. ⌜ r ≡ countUp counts t l ⌝ }
-{
-    let mut r = counts;
-    let at = place(t, l);
-    let n = r[at];
-    r[at] = n + 1;
-    r
-}
-
-fn counted_down(counts: [u8; Waits::COUNTS], t: usize, l: usize) -> [u8; Waits::COUNTS]
-    requires { ⌜ (t < THREADS) × (l < LOCKS) ⌝ }
-    ensures { λ r. ⌜ r ≡ countDown counts t l ⌝ }
-{
-    let mut r = counts;
-    let at = place(t, l);
-    let n = r[at];
-    if 0 < n {
-        r[at] = n - 1;
-    }
-    r
-}
-
-fn no_readers(counts: [u8; Waits::COUNTS], l: usize) -> [u8; Waits::COUNTS]
-    requires { ⌜ l < LOCKS ⌝ }
-    ensures { λ r. ⌜ r ≡ noReaders counts l ⌝ }
-{
-    let mut r = counts;
-    let mut t = 0;
-    while t < THREADS {
-        let at = place(t, l);
-        r[at] = 0;
-        t += 1;
-    }
-    r
 }
 
 impl Detector {

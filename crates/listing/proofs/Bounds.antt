@@ -15,7 +15,7 @@ use Rattle.sets.specs.Lists.{In}
 use Rattle.sets.proofs.Walk.{upward-lt}
 use Rattle.graph.specs.Search.{row}
 use Rattle.waits.specs.Tables.{noSlot, lockOf}
-use Rattle.waits.specs.Owners.{place, countOf}
+use Rattle.waits.specs.Counts.{place, countOf}
 use Rattle.waits.specs.declared.intent.Slot.{Slot}
 use Rattle.waits.specs.declared.intent.WaitMode.{WaitMode}
 use Rattle.waits.specs.declared.intent.WaitMode.the-variants.{Mutex, RwRead, RwWrite}

@@ -10,7 +10,7 @@ use Rattle.detector.specs.Limits.{NONE}
 use Rattle.sets.specs.Sets.{upward}
 use Rattle.graph.specs.Search.{row}
 use Rattle.waits.specs.Tables.{noSlot}
-use Rattle.waits.specs.Owners.{countOf}
+use Rattle.waits.specs.Counts.{countOf}
 use Rattle.waits.specs.declared.tables.Waits.{Waits}
 use Rattle.waits.specs.declared.intent.Slot.{Slot}
 use Rattle.waits.specs.declared.intent.WaitMode.{WaitMode}

@@ -9,7 +9,6 @@ use waits::Awaits;
 use waits::Slot;
 use waits::WaitMode;
 use waits::Waits;
-ghost use mathlib.Core.Path.{_≡_};
 ghost use mathlib.Core.List.{[], _∷_};
 ghost use Rattle.listing.specs.Listing.{ownerItem, readerItem, pairItem, cvWaitItem, intentItem};
 ghost use Rattle.listing.specs.Promises.{Roomy, Lists};

@@ -4,7 +4,6 @@ use text::equal;
 use text::read_number;
 use waits::Outcome;
 ghost use mathlib.Core.Path.{_≡_};
-ghost use Rattle.text.specs.Bytes.{same};
 ghost use Rattle.script.specs.Outcomes.{outcomeOf};
 
 pub enum OutcomeRead {

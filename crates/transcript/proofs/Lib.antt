@@ -5,4 +5,3 @@ pub mod Answering
 pub mod Turning
 pub mod Feeding
 pub mod Calls
-pub mod Guards

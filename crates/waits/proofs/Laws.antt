@@ -18,7 +18,8 @@ use Rattle.graph.specs.Graph.{one, cutAll, clearWaitEdges, Adding}
 use Rattle.graph.specs.declared.wait_for_graph.WaitForGraph.{WaitForGraph}
 use Rattle.graph.proofs.Fits.{Fits, fits-none, fits-first, fits-owners, one-lt}
 use Rattle.waits.specs.Tables.{noSlot, intentOf, lockOf, waitersOf, writerOf, ownerOf, withGraph, withIntents, own, write, empty, InRange}
-use Rattle.waits.specs.Owners.{readers, reads, thenWriter, ownersFor, owners}
+use Rattle.waits.specs.Counts.{readers, reads}
+use Rattle.waits.specs.Owners.{thenWriter, ownersFor, owners}
 use Rattle.waits.specs.Waiting.{Linking, unwaited, clear, setIntent, register, renewFor, renew, renewStart, renewAll, refreshed, refresh, refreshNext, refreshLocks}
 use Rattle.waits.specs.declared.tables.Waits.{Waits}
 use Rattle.waits.specs.declared.intent.Slot.{Slot}

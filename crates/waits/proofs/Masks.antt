@@ -24,7 +24,8 @@ use Rattle.sets.proofs.Below.{last-or, those-in, in-those, those-same, upward-t
 use Rattle.graph.specs.Search.{row}
 use Rattle.graph.specs.Graph.{one}
 use Rattle.waits.specs.Tables.{intentOf, holdsOf}
-use Rattle.waits.specs.Owners.{countOf, reads, readers, thenWriter, waitsFor}
+use Rattle.waits.specs.Counts.{countOf, reads, readers}
+use Rattle.waits.specs.Owners.{thenWriter, waitsFor}
 use Rattle.waits.specs.Filter.{nothing, allHold, nobodyReads, commonLocks, passes}
 use Rattle.waits.specs.Validate.{around, valid, names, someAwaits, awaitedLocks}
 use Rattle.waits.specs.Code.{commonMask, allRead, withAwaited, awaitedMask}

@@ -11,7 +11,8 @@ use Rattle.sets.specs.Below.{those}
 use Rattle.graph.specs.Search.{row, visit, expand, wayBack, search, findPath}
 use Rattle.graph.specs.Graph.{cutAll, stored, closing, addEdge, addNext, addOwners, clearWaitEdges}
 use Rattle.waits.specs.Tables.{empty, write, hold, intentOf, waitersOf}
-use Rattle.waits.specs.Owners.{place, readers, owners}
+use Rattle.waits.specs.Counts.{place, readers}
+use Rattle.waits.specs.Owners.{owners}
 use Rattle.waits.specs.Waiting.{clear, setIntent, register}
 use Rattle.waits.specs.Filter.{allHold, commonLocks, passes}
 use Rattle.waits.specs.Attempt.{mutexOn}

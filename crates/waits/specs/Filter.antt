@@ -6,7 +6,7 @@ use Rattle.sets.specs.Limits.{LOCKS}
 use Rattle.sets.specs.Sets.{has}
 use Rattle.sets.specs.Below.{those}
 use Rattle.waits.specs.Tables.{holdsOf}
-use Rattle.waits.specs.Owners.{readers}
+use Rattle.waits.specs.Counts.{readers}
 use Rattle.waits.specs.declared.tables.Waits.{Waits}
 
 -- the list is empty

@@ -1,5 +1,6 @@
 -- The rules of waiting of document 01, in its order.
 pub mod Tables
+pub mod Counts
 pub mod Owners
 pub mod Waiting
 pub mod Filter

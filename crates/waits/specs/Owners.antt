@@ -1,39 +1,17 @@
--- OWNERS THAT BLOCK. The reader counts c stand by lock and thread.
+-- OWNERS THAT BLOCK.
 use mathlib.Core.List.{List, [], _++_}
-use mathlib.Core.Bool.{Bool, not, cond}
-use Prim.Native.Nat.{ℕ, _+_, _*_}
-use lib.Dec.{eqb}
-use lib.ListN.{getD}
-use Rattle.sets.specs.Limits.{THREADS, LOCKS}
+use mathlib.Core.Bool.{Bool, cond}
+use Prim.Native.Nat.{ℕ}
 use Rattle.sets.specs.Lists.{among}
-use Rattle.sets.specs.Below.{those}
 use Rattle.graph.specs.Graph.{one}
 use Rattle.waits.specs.Tables.{intentOf, ownerOf, writerOf}
+use Rattle.waits.specs.Counts.{readers}
 use Rattle.waits.specs.declared.tables.Waits.{Waits}
 use Rattle.waits.specs.declared.intent.WaitIntent.{WaitIntent}
 use Rattle.waits.specs.declared.intent.WaitMode.{WaitMode}
 use Rattle.waits.specs.declared.intent.WaitMode.the-variants.{Mutex, RwRead, RwWrite}
 use Rattle.waits.specs.declared.intent.Awaits.{Awaits}
 use Rattle.waits.specs.declared.intent.Awaits.the-variants.{Nothing, For}
-
--- how many counts there are
-abbrev pub COUNTS : ℕ
-COUNTS = LOCKS * THREADS
-
--- where the count of thread t and lock l stands
-abbrev pub place : ℕ → ℕ → ℕ
-place t l = l * THREADS + t
-
--- how often thread t reads lock l
-abbrev pub countOf : List ℕ → ℕ → ℕ → ℕ
-countOf counts t l = getD counts (place t l) 0
-
-abbrev pub reads : List ℕ → ℕ → ℕ → Bool
-reads counts t l = not (eqb (countOf counts t l) 0)
-
--- all readers of l, upward
-unfoldable pub readers : List ℕ → ℕ → List ℕ
-readers counts l = those (λ t. reads counts t l) THREADS
 
 -- the readers, then the writer if not among them
 abbrev pub thenWriter : List ℕ → ℕ → List ℕ

@@ -10,11 +10,11 @@ ghost use Rattle.waits.specs.Attempt.{judgeFound, settle, free, blockFor
 ghost use Rattle.waits.specs.Report.{reportBytes};
 ghost use Rattle.waits.specs.Code.{freeFor, passesFor};
 ghost use Rattle.waits.specs.Promises.{Judges};
+use crate::counts::reader_mask;
 use crate::intent::WaitIntent;
 use crate::intent::WaitMode;
 use crate::tables::Judged;
 use crate::tables::Waits;
-use crate::wait::reader_mask;
 use graph::Path;
 use graph::Sought;
 use graph::Way;

@@ -1,6 +1,6 @@
 // The filter by common locks, and the report.
 ghost use mathlib.Core.Path.{_≡_};
-ghost use Prim.Native.Nat.{_+_, _*_, _<_, _≤_};
+ghost use Prim.Native.Nat.{_+_, _*_, _≤_};
 ghost use lib.ListN.{length};
 ghost use Rattle.sets.specs.Limits.{LOCKS};
 ghost use Rattle.sets.specs.Sets.{upward};
@@ -11,9 +11,9 @@ ghost use Rattle.waits.specs.Filter.{passes};
 ghost use Rattle.waits.specs.Report.{entryBytes, reportBytes, bytesOf, report, reporting};
 ghost use Rattle.waits.specs.Code.{commonMask, allRead};
 ghost use Rattle.waits.specs.Promises.{laid, Judges};
+use crate::counts::reader_mask;
 use crate::tables::Judged;
 use crate::tables::Waits;
-use crate::wait::reader_mask;
 use graph::Path;
 use sets::locks;
 

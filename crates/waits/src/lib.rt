@@ -1,11 +1,16 @@
 // The words of waiting, the tables that every event may touch, and the rules of waiting over them.
 mod attempt;
+mod counts;
 mod deadlock_handling;
 mod intent;
 mod outcome;
 mod tables;
 mod wait;
 
+pub use counts::counted_down;
+pub use counts::counted_up;
+pub use counts::no_readers;
+pub use counts::place;
 pub use intent::Awaits;
 pub use intent::Slot;
 pub use intent::WaitIntent;
@@ -16,4 +21,3 @@ pub use tables::Judged;
 pub use tables::Linked;
 pub use tables::Owners;
 pub use tables::Waits;
-pub use wait::place;

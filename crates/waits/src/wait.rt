@@ -4,7 +4,7 @@ ghost use mathlib.Core.List.{_++_};
 ghost use Prim.Native.Nat.{_+_, _<_, _≤_};
 ghost use lib.ListN.{length};
 ghost use Rattle.sets.specs.Limits.{THREADS, LOCKS, NOBODY};
-ghost use Rattle.waits.specs.Owners.{COUNTS, place, readers, owners, waitsFor};
+ghost use Rattle.waits.specs.Owners.{owners, waitsFor};
 ghost use Rattle.sets.specs.Sets.{upward};
 ghost use Rattle.graph.specs.Graph.{one, clearWaitEdges};
 ghost use Rattle.graph.specs.Promises.{Fit};
@@ -15,6 +15,7 @@ ghost use Rattle.waits.specs.Validate.{valid, validate};
 ghost use Rattle.waits.specs.Report.{reportBytes};
 ghost use Rattle.waits.specs.Code.{linked, renewC, refreshNextC, awaitedMask, withAwaited};
 ghost use Rattle.waits.specs.Promises.{Judges};
+use crate::counts::reader_mask;
 use crate::intent::Awaits;
 use crate::intent::Slot;
 use crate::intent::WaitIntent;
@@ -30,31 +31,6 @@ use sets::NOBODY;
 use sets::THREADS;
 use sets::locks;
 use sets::threads;
-
-// Where the count of lock l and thread t stands.
-pub fn place(t: usize, l: usize) -> usize
-    requires { ⌜ (l < LOCKS) × (t < THREADS) ⌝ }
-    ensures { λ r. ⌜ (r ≡ place t l) × (r < COUNTS) ⌝ }
-{
-    l * THREADS + t
-}
-
-// The readers of a lock, from its 32 counts.
-pub(crate) fn reader_mask(counts: &[u8; Waits::COUNTS], lock: usize) -> u32
-    requires { ⌜ lock < LOCKS ⌝ }
-    ensures { λ r. ⌜ upward THREADS r ≡ readers (now (counts .entry)) lock ⌝ }
-{
-    let mut m = 0u32;
-    let mut t = 0;
-    while t < THREADS {
-        let at = place(t, lock);
-        if counts[at] != 0 {
-            m = threads::with(m, t);
-        }
-        t += 1;
-    }
-    m
-}
 
 fn with_awaited(m: u64, s: Slot) -> u64
     requires { ⌜ lockOf (s .awaits) < LOCKS ⌝ }

@@ -1,4 +1,4 @@
-use Rattle.waits.specs.Owners.{countOf}
+use Rattle.waits.specs.Counts.{countOf}
 use Rattle.listing.proofs.Items.{Partly, partly-room, partly-more, partly-all, along-more, along-none, partly-start}
 use Rattle.listing.specs.Listing.{along, readerItem, readersOf}
 use Rattle.text.proofs.Puts.{put-length}

@@ -4,8 +4,8 @@ use Rattle.detector.proofs.Ranges.{range-loosen}
 use Rattle.detector.proofs.Promises.{redo, does-counts, count-down-at}
 use Rattle.detector.specs.State.{tables}
 use Rattle.detector.specs.Tables.{withCounts, silent}
-use Rattle.detector.specs.RwLock.{releaseRead, countDown, loosen}
-use Rattle.waits.specs.Owners.{countOf}
+use Rattle.detector.specs.RwLock.{releaseRead, loosen}
+use Rattle.waits.specs.Counts.{countDown, countOf}
 use borrow.Author.Needs.{needs}
 use mathlib.Core.Path.{_≡_, sym, ap, ap₂, subst, _∙_}
 use mathlib.Core.Logic.{⊎-elim}

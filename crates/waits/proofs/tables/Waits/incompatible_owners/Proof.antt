@@ -1,5 +1,5 @@
 use Rattle.waits.proofs.Masks.{in-mask, last-none, last-in, last-out}
-use Rattle.waits.specs.Owners.{readers}
+use Rattle.waits.specs.Counts.{readers}
 use Rattle.sets.proofs.Walk.{upward-zero}
 use borrow.Author.Needs.{needs}
 use mathlib.Core.Path.{sym, _∙_}

@@ -1,0 +1,2 @@
+-- Theorems: run-taken, feed-taken, end-taken
+pub mod Guards

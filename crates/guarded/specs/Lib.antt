@@ -1,0 +1,2 @@
+-- What the calls for anybody test and promise.
+pub mod Promises
