@@ -1,4 +1,4 @@
-//! beside: makes scripts, runs programs side by side on them, and cuts down what differs.
+//! The program beside makes scripts, runs programs side by side on them, and cuts down a script on which they differ.
 //!
 //!   beside run [--seed N] [--lines M] [--under PROGRAM] [--replay PROGRAM]
 //!              [--kinds A,B] [--without A,B] [--ordered PROGRAM] [--untouched PROGRAM] [--brief]
@@ -6,10 +6,10 @@
 //!   beside load NAME SEED LINES         a script of the benchmark
 //!   beside sample FOLDER [--joined]     the fixed list
 //!   beside measure RUNS FILE PROGRAM..  CPU microseconds and peak KB of each, interleaved
-//!   beside slowest-event PROGRAM..            what one event can cost
-//!   beside kinds                        the kinds and what they are after
+//!   beside slowest-event PROGRAM..      the slowest event that is found
+//!   beside kinds                        the kinds of scripts, and what each aims at
 //!
-//! A PROGRAM is a path, with words behind blanks if it needs any.
+//! A PROGRAM is a path, with arguments after blanks if it needs any.
 mod clock;
 mod slowest;
 mod compare;
@@ -45,20 +45,23 @@ fn main() {
     }
 }
 
+/// Ends the program with the names of its commands.
 fn usage() -> ! {
     eprintln!("beside: run, make, load, sample, measure, slowest-event or kinds; see README.md");
     std::process::exit(2);
 }
 
+/// Returns the number that an argument spells, which may have `_` in it.
 fn number(text: &str) -> u64 {
     text.replace('_', "").parse().unwrap_or_else(|_| usage())
 }
 
+/// Writes bytes to standard output. A reader that has gone away is no failure.
 fn print(bytes: &[u8]) {
     let _ = std::io::stdout().write_all(bytes);
 }
 
-/// The folder that this program stands in has the oracle's other programs too.
+/// Returns the folder of this program, which has the oracle's other programs too.
 fn bin() -> PathBuf {
     let me = std::env::current_exe().expect("the path of this program");
     me.parent().unwrap().to_path_buf()
@@ -66,19 +69,20 @@ fn bin() -> PathBuf {
 
 // Runs side by side.
 
-/// Which two outputs are compared.
+/// Two outputs that are compared.
 #[derive(Clone, Copy, PartialEq)]
 enum Pair {
-    /// all answers and tables: the program under test beside the ordered copy
+    /// All answers and tables of the program under test, and those of the ordered copy.
     Tables,
-    /// all answers: the program replay beside the ordered copy
+    /// All answers of the program replay, and those of the ordered copy.
     Replay,
-    /// all answers and tables: the ordered copy beside the untouched source
+    /// All answers and tables of the ordered copy, and those of the untouched source.
     Untouched,
-    /// all answers: the program replay beside the untouched source
+    /// All answers of the program replay, and those of the untouched source.
     ReplayUntouched,
 }
 
+/// The programs that are compared, and the file of the script that they run.
 struct Runner {
     desk: Desk,
     ordered: Program,
@@ -87,6 +91,7 @@ struct Runner {
     replay: Option<Program>,
 }
 
+/// What is counted of the scripts of one kind.
 #[derive(Default)]
 struct Tally {
     scripts: usize,
@@ -95,6 +100,7 @@ struct Tally {
     refused: usize,
 }
 
+/// Reads the arguments of `beside run` and runs all comparisons.
 fn run(words: &[String]) {
     let mut seed = 1;
     let mut lines = 200_000;
@@ -141,6 +147,8 @@ fn run(words: &[String]) {
 }
 
 impl Runner {
+    /// Runs the fixed sessions, scripts of each kind until there are enough lines, and the script of a million lines.
+    /// Ends the program at the first difference, and otherwise prints what was compared.
     fn run_all(&self, seed: u64, wanted: usize, kinds: &[&str], brief: bool) {
         let begun = Instant::now();
         let mut tallies: BTreeMap<&str, Tally> = BTreeMap::new();
@@ -203,22 +211,22 @@ impl Runner {
         );
     }
 
-    /// The oracle itself is held to what the documents say of their own sessions.
+    /// Holds the ordered copy to what is expected of a session, and ends the program if it prints something else.
     fn check_session(&self, name: &str, text: &str, says: &str) {
         let script = scripts::session(text);
         self.desk.put(&script);
         let out = compare::answers_only(&self.desk.run(&self.ordered, &script, Feed::File));
         let shown: Vec<String> = compare::split(&out).iter().map(|l| show(l)).filter(|l| !l.contains(" ok ")).collect();
         if shown.join(",") != says {
-            println!("DIFFERENT: the ordered copy and the documents, session {name}: {text}");
-            println!("    documents:    {says}");
+            println!("DIFFERENT: the ordered copy and the sessions worked by hand, session {name}: {text}");
+            println!("    by hand:      {says}");
             println!("    ordered copy: {}", shown.join(","));
             self.desk.clear();
             std::process::exit(1);
         }
     }
 
-    /// All comparisons of one script; the first that fails is given.
+    /// Makes all comparisons on one script and returns the first that fails.
     fn check(&self, kind: &str, script: &[u8], feed: Feed, tally: &mut Tally, beside: &mut usize) -> Option<(Pair, Difference)> {
         self.desk.put(script);
         let expected = self.desk.run(&self.ordered, script, feed);
@@ -259,13 +267,14 @@ impl Runner {
         None
     }
 
-    /// One comparison on one script, from nothing.
+    /// Makes one comparison on one script and returns the difference, if there is one.
     fn compare(&self, pair: Pair, script: &[u8], feed: Feed) -> Option<Difference> {
         self.desk.put(script);
         let (left, right) = self.outputs(pair, script, feed)?;
         compare::difference(&left, &right)
     }
 
+    /// Returns the two outputs of a comparison, or nothing if one of the programs was not given.
     fn outputs(&self, pair: Pair, script: &[u8], feed: Feed) -> Option<(Vec<u8>, Vec<u8>)> {
         let run = |p: &Program| self.desk.run(p, script, feed);
         Some(match pair {
@@ -276,7 +285,7 @@ impl Runner {
         })
     }
 
-    /// A short script on which two outputs differ, if a few hundred of them have one.
+    /// Returns a short script on which the two outputs differ, if there is one among a few hundred.
     fn find_short(&self, pair: Pair) -> Option<Vec<u8>> {
         let kinds = scripts::KINDS.iter().map(|k| k.0).filter(|k| !["sessions", "long", "limits"].contains(k));
         let kinds: Vec<&str> = kinds.collect();
@@ -285,14 +294,14 @@ impl Runner {
             .find(|script| self.compare(pair, script, Feed::File).is_some())
     }
 
-    /// Cuts the script down and says where the two part.
+    /// Cuts the script down and prints where the two outputs begin to differ.
     fn tell(&self, kind: &str, name: &str, pair: Pair, script: Vec<u8>, feed: Feed, brief: bool, total: usize) {
         let mut lines = compare::split(&script);
         let untouched = matches!(pair, Pair::Untouched | Pair::ReplayUntouched);
         let mut differs = |lines: &[Vec<u8>]| {
             let script = compare::join(lines);
             if untouched {
-                // Only what stays within the kind may be held beside hash maps.
+                // Only scripts that stay within the kind may be compared with hash maps.
                 self.desk.put(&script);
                 let tables = self.desk.run(&self.ordered, &script, feed);
                 if compare::single_lines(lines, &tables) < lines.len() {
@@ -301,7 +310,7 @@ impl Runner {
             }
             self.compare(pair, &script, feed).is_some()
         };
-        // A million lines are not cut: that they are so many is the point.
+        // A million lines are not cut down, since their number is what is tested.
         if kind != "million" {
             if untouched {
                 self.desk.put(&script);
@@ -316,7 +325,8 @@ impl Runner {
                 }
             }
             lines = compare::cut(lines, &mut differs);
-            // A row of 30 threads cannot be cut to one of two: other scripts may say it shorter.
+            // A row of 30 threads cannot be cut down to one of two, so another script may show the difference in fewer
+            // lines.
             if !untouched && lines.len() > LONG {
                 if let Some(other) = self.find_short(pair) {
                     let other = compare::cut(compare::split(&other), &mut differs);
@@ -364,20 +374,20 @@ impl Runner {
     }
 }
 
-/// A cut script of more lines than this is worth a look for a shorter one.
+/// If a script that was cut down has more lines than this, a shorter one is looked for.
 const LONG: usize = 12;
 
-/// One script of each kind; gives the number of lines so far.
+/// Runs one script of each kind and returns the number of lines so far.
 fn total_so_far(one: &mut impl FnMut(&'static str, &str, Vec<u8>) -> usize, kinds: &[&'static str], seed: u64, round: u64) -> usize {
     let mut total = 0;
     for (i, kind) in kinds.iter().enumerate() {
-        // One long text is worth several others.
+        // A long text has as many lines as several others, so it comes in every fourth round only.
         if *kind == "long" && kinds.len() > 1 && round % 4 != 3 {
             continue;
         }
         let own = scripts::Rng::new(seed.wrapping_mul(1_000_003) ^ (round << 20) ^ i as u64).next();
         let mut rng = scripts::Rng::new(own ^ 0x5a5a);
-        // Short scripts first, and most of the time: they say more when they differ.
+        // Short scripts come first and most often, because a difference is easier to see in them.
         let size = match rng.below(10) {
             _ if round < 20 => rng.between(4, 12 + 4 * round as usize),
             0..=3 => rng.between(6, 30),
@@ -389,14 +399,15 @@ fn total_so_far(one: &mut impl FnMut(&'static str, &str, Vec<u8>) -> usize, kind
     total
 }
 
-/// More lines than are read: all of no effect but the last ones before the limit and those behind it.
+/// Returns a script of more lines than are read. Only the last lines before the limit and those after it could change
+/// a table.
 fn million() -> Vec<u8> {
     let mut text = b"cn\t0\n".repeat(999_998);
     text.extend_from_slice(b"ma\t1\t5\ttook\nbroken\nma\t2\t6\ttook\nma\t3\t5\t-\n");
     text
 }
 
-/// A line with blanks for tabs. Bytes that would not show are spelt out.
+/// Returns a line with blanks for tabs, and with bytes that would not show spelt out.
 fn show(line: &[u8]) -> String {
     let (body, ended) = match line.strip_suffix(b"\n") {
         Some(body) => (body, true),
@@ -422,7 +433,7 @@ fn show(line: &[u8]) -> String {
     text
 }
 
-/// The same line many times over is shown once, with its number.
+/// Returns the lines with neighbouring equal ones as one line and their number.
 fn runs_of(lines: &[String]) -> Vec<String> {
     let mut out: Vec<(String, usize)> = Vec::new();
     for line in lines {
@@ -436,8 +447,8 @@ fn runs_of(lines: &[String]) -> Vec<String> {
 
 // The fixed list.
 
-/// The sizes of the list's scripts of one kind, and how many bytes script and output may have. A full
-/// count takes 256 lines.
+/// Returns the sizes of the list's scripts of one kind, and how many bytes script and output may have together. The
+/// kind `limits` has larger ones because a full count takes 256 lines.
 fn sizes(kind: &str) -> &'static [(usize, usize)] {
     match kind {
         "limits" => &[(40, 9_000), (200, 30_000)],
@@ -446,8 +457,8 @@ fn sizes(kind: &str) -> &'static [(usize, usize)] {
     }
 }
 
-/// The documents' sessions, the readings, and of each kind the scripts that say most: of the first hundred seeds
-/// the one with the most reports and different refusals that has not too many bytes.
+/// Returns the scripts of the fixed list with their names: the sessions worked by hand, those for wrong readings, and
+/// of each kind and size the one of the first hundred seeds that shows most and has not too many bytes.
 fn chosen(run: &dyn Fn(&[u8]) -> Vec<u8>) -> Vec<(String, Vec<u8>)> {
     let mut all: Vec<(String, Vec<u8>)> = Vec::new();
     for (name, text, _) in scripts::SESSIONS {
@@ -468,7 +479,7 @@ fn chosen(run: &dyn Fn(&[u8]) -> Vec<u8>) -> Vec<(String, Vec<u8>)> {
     all
 }
 
-/// How much an output says: its reports, and which refusals it has.
+/// Returns how much an output shows: its reports, and three for each of the different refusals.
 fn says(out: &[u8]) -> usize {
     let lines: Vec<&[u8]> = out.split(|&b| b == b'\n').collect();
     let reports = lines.iter().filter(|l| l.starts_with(b"cycle")).count();
@@ -476,8 +487,8 @@ fn says(out: &[u8]) -> usize {
     reports + 3 * refusals
 }
 
-/// Writes a small set of scripts of all kinds with what the ordered copy prints for them. Joined, they
-/// stand in one script, with lines between that lead back to the empty state.
+/// Writes the scripts of the fixed list with what the ordered copy prints for them. If they are joined, they stand in
+/// one script, with lines between them that lead back to the empty state.
 fn sample(folder: &Path, joined: bool) {
     std::fs::create_dir_all(folder).expect("the sample's folder");
     let desk = Desk::new(&bin().join("../tmp"));
@@ -514,7 +525,7 @@ fn sample(folder: &Path, joined: bool) {
     println!("sample: {} scripts, {lines} lines", all.len());
 }
 
-/// The table lines after the last answer.
+/// Returns the `table` lines after the last answer.
 fn last_tables(out: &[u8]) -> Vec<String> {
     let text = String::from_utf8_lossy(out);
     let mut tables = Vec::new();
@@ -528,8 +539,8 @@ fn last_tables(out: &[u8]) -> Vec<String> {
     tables
 }
 
-/// Lines that lead from the state at the end of an output back to the empty one: ce clears what a
-/// thread awaits and its marks, cd a queue, md and rd all that is known of a lock.
+/// Returns lines that lead from the state at the end of an output back to the empty one: `ce` clears what a thread
+/// awaits and its marks, `cd` clears a queue, and `md` and `rd` clear all that is known of a lock.
 fn back_to_empty(out: &[u8]) -> Vec<u8> {
     let (mut threads, mut locks, mut condvars) = (BTreeMap::new(), BTreeMap::new(), BTreeMap::new());
     for table in last_tables(out) {
@@ -565,7 +576,8 @@ fn back_to_empty(out: &[u8]) -> Vec<u8> {
 
 // Measuring.
 
-/// The programs take turns, so that a slow moment of the machine meets them alike.
+/// Prints the least CPU time and the peak memory of each program. The programs take turns, so that a slow moment of the
+/// machine affects all of them.
 fn measure(words: &[String]) {
     let runs = number(&words[0]) as usize;
     let script = Path::new(&words[1]);

@@ -1,16 +1,17 @@
-//! Running programs on a script, comparing what they print, and cutting a script down.
+//! This module runs programs on a script, compares what they print, and cuts a script down.
 use std::fs::File;
 use std::io::{Read, Write};
 use std::path::{Path, PathBuf};
 use std::process::{Command, Stdio};
 
-/// A program and its words, as given on the command line: `path word word`.
+/// A program and its arguments, as they are given on the command line: `path argument argument`.
 #[derive(Clone)]
 pub struct Program {
     words: Vec<String>,
 }
 
 impl Program {
+    /// Returns the program that a text names, with its arguments after blanks.
     pub fn new(text: &str) -> Program {
         let words: Vec<String> = text.split_whitespace().map(str::to_string).collect();
         if words.is_empty() {
@@ -20,25 +21,27 @@ impl Program {
         Program { words }
     }
 
+    /// Returns the program of this path, with at most one argument.
     pub fn with(path: &Path, word: Option<&str>) -> Program {
         let mut words = vec![path.to_string_lossy().into_owned()];
         words.extend(word.map(str::to_string));
         Program { words }
     }
 
-    /// The last part of its path, for headings.
+    /// Returns the last part of its path, for headings.
     pub fn name(&self) -> String {
         let path = Path::new(&self.words[0]);
         path.file_name().unwrap_or_default().to_string_lossy().into_owned()
     }
 
+    /// Returns the command that starts it.
     pub fn command(&self) -> Command {
         let mut command = Command::new(&self.words[0]);
         command.args(&self.words[1..]);
         command
     }
 
-    /// Does it start at all? Asked once, so that a wrong path is not taken for a difference.
+    /// Ends `beside` with an error if the program does not start. Otherwise a wrong path would pass for a difference.
     pub fn check(&self) {
         let started = self.command().stdin(Stdio::null()).stdout(Stdio::null()).status();
         if let Err(e) = started {
@@ -55,7 +58,7 @@ pub enum Feed {
     Pieces,
 }
 
-/// The place of the one script that is being run.
+/// The file of the one script that is being run.
 pub struct Desk {
     path: PathBuf,
 }
@@ -66,16 +69,17 @@ impl Desk {
         Desk { path: folder.join(format!("{}.script", std::process::id())) }
     }
 
-    /// For a way out that drops nothing.
+    /// Removes the script's file. An exit by `std::process::exit` needs this, since it drops nothing.
     pub fn clear(&self) {
         let _ = std::fs::remove_file(&self.path);
     }
 
+    /// Writes the script to its file.
     pub fn put(&self, script: &[u8]) {
         std::fs::write(&self.path, script).expect("the script's file");
     }
 
-    /// What a program prints for the script on the desk. A program that fails says so in a last line.
+    /// Returns what a program prints for the script in the file, with a last line added if the program fails.
     pub fn run(&self, program: &Program, script: &[u8], feed: Feed) -> Vec<u8> {
         let mut command = program.command();
         command.stdout(Stdio::piped()).stderr(Stdio::null());
@@ -92,7 +96,7 @@ impl Desk {
                 while !rest.is_empty() {
                     size = (size * 7 + 13) % 9973 + 1;
                     let n = size.min(rest.len());
-                    // A program that has read enough closes its end.
+                    // A program that has read enough closes its end of the pipe.
                     if to.write_all(&rest[..n]).is_err() {
                         break;
                     }
@@ -119,7 +123,7 @@ impl Drop for Desk {
     }
 }
 
-/// What replay prints, out of what tables prints.
+/// Returns what `replay` prints, taken out of what `tables` prints.
 pub fn answers_only(tables: &[u8]) -> Vec<u8> {
     let mut out = Vec::new();
     for line in tables.split_inclusive(|&b| b == b'\n') {
@@ -130,13 +134,14 @@ pub fn answers_only(tables: &[u8]) -> Vec<u8> {
     out
 }
 
-/// The first lines that differ, and the script line they belong to (none: the end line).
+/// The first lines that differ, and the number of the script's line that they answer, or none for the `end` line.
 pub struct Difference {
     pub script_line: Option<usize>,
     pub left: Vec<u8>,
     pub right: Vec<u8>,
 }
 
+/// Returns the first difference between two outputs, or nothing if they are equal.
 pub fn difference(left: &[u8], right: &[u8]) -> Option<Difference> {
     if left == right {
         return None;
@@ -146,7 +151,7 @@ pub fn difference(left: &[u8], right: &[u8]) -> Option<Difference> {
     let mut script_line = None;
     loop {
         let (x, y) = (a.next().unwrap_or(b""), b.next().unwrap_or(b""));
-        // An answer line begins with its number; table and cycle lines belong to the answer above.
+        // A reply line begins with the line's number. The `cycle` and `table` lines after it belong to it.
         let digits: Vec<u8> = x.iter().copied().take_while(u8::is_ascii_digit).collect();
         if !digits.is_empty() {
             script_line = std::str::from_utf8(&digits).unwrap().parse().ok();
@@ -162,16 +167,18 @@ pub fn difference(left: &[u8], right: &[u8]) -> Option<Difference> {
     }
 }
 
+/// Returns the lines of a script, each with its line feed.
 pub fn split(script: &[u8]) -> Vec<Vec<u8>> {
     script.split_inclusive(|&b| b == b'\n').map(<[u8]>::to_vec).collect()
 }
 
+/// Returns the script of these lines.
 pub fn join(lines: &[Vec<u8>]) -> Vec<u8> {
     lines.concat()
 }
 
-/// Cuts a list of lines down while it still differs: ever smaller runs of lines are left out, then
-/// single lines and pairs of them, until nothing more can go.
+/// Returns a shorter list of lines that still differs. Ever fewer neighbouring lines are left out at a time, down to
+/// single lines, and at last pairs of lines, until nothing more can go.
 pub fn cut(lines: Vec<Vec<u8>>, differs: &mut dyn FnMut(&[Vec<u8>]) -> bool) -> Vec<Vec<u8>> {
     let mut kept = lines;
     let mut run = kept.len() / 2;
@@ -192,7 +199,7 @@ pub fn cut(lines: Vec<Vec<u8>>, differs: &mut dyn FnMut(&[Vec<u8>]) -> bool) -> 
             run /= 2;
         }
     }
-    // Two lines that only make sense together (taken and given back) go together.
+    // Two lines that only make sense together, such as a lock taken and given back, are left out together.
     if kept.len() <= 24 {
         'again: loop {
             for i in 0..kept.len() {
@@ -212,16 +219,16 @@ pub fn cut(lines: Vec<Vec<u8>>, differs: &mut dyn FnMut(&[Vec<u8>]) -> bool) -> 
     kept
 }
 
-/// How far a script may be held beside the untouched source: the number of lines after each of which
-/// no thread awaits two owners and no lock has two waiters. `tables` is what the ordered copy prints.
-/// A `ca` on two pairs or more ends it too, since states between its pairs are not printed.
+/// Returns how far a script may be compared with the untouched source: the number of lines after each of which no
+/// thread awaits two owners and no lock has two waiters. `tables` is what the ordered copy prints. A `ca` on two pairs
+/// or more ends it too, since the states between its pairs are not printed.
 pub fn single_lines(script: &[Vec<u8>], tables: &[u8]) -> usize {
     let mut state = State::default();
     let mut blocks = 0;
     for line in tables.split(|&b| b == b'\n') {
         let first = line.first().copied().unwrap_or(b' ');
         if first.is_ascii_digit() || line.starts_with(b"end") {
-            // The tables before this line are complete.
+            // The tables that were printed before this line are all there.
             if blocks > 0 && !state.single() {
                 return blocks - 1;
             }
@@ -239,6 +246,7 @@ pub fn single_lines(script: &[Vec<u8>], tables: &[u8]) -> usize {
     blocks
 }
 
+/// What is read off the tables after one line, item by item.
 #[derive(Default)]
 struct State {
     queue: Vec<usize>,
@@ -250,6 +258,7 @@ struct State {
 }
 
 impl State {
+    /// Takes in the items of one `table` line.
     fn take(&mut self, line: &[u8]) {
         let text = String::from_utf8_lossy(line);
         let mut fields = text.split('\t').skip(1);
@@ -271,10 +280,12 @@ impl State {
         }
     }
 
+    /// Returns the length of the longest queue.
     fn longest_queue(&self) -> usize {
         (0..16).map(|c| self.queue.iter().filter(|&&q| q == c).count()).max().unwrap_or(0)
     }
 
+    /// Returns true if no thread awaits two owners and no lock has two waiters.
     fn single(&self) -> bool {
         let two_waiters = self.waiters.windows(2).any(|w| w[0] == w[1]);
         let two_owners = self.write_waits.iter().any(|&l| {

@@ -1,12 +1,12 @@
-//! The driver: a script on standard input, what `replay` prints on standard output.
+//! The driver reads a script on standard input and prints what `replay` prints for it.
 //!
-//! With the word `tables` it also prints all tables after each line. With the word `floor` it reads,
-//! parses and prints as always, but asks no rule: what is left is the cost of the text alone.
+//! With the argument `tables` it also prints all tables after each line. With the argument `floor` it reads, parses and
+//! prints as always but applies no rule, so that only the cost of the text is left.
 //!
-//! The same text is built twice, beside the ordered copy and beside the untouched source.
+//! The same text is built twice, once beside the ordered copy and once beside the untouched source.
 mod core;
 
-// Names that the source expects at the root of its crate.
+// The source expects these names at the root of its crate.
 pub use crate::core::types::{DeadlockInfo, LockId, ThreadId};
 pub const BANNER: &str = "";
 
@@ -16,17 +16,21 @@ use std::fs::File;
 use std::io::{Read, Write};
 use std::os::fd::AsFd;
 
+// These limits are the port's: how many threads, locks and condvars there are, how many pairs a queue holds, and how
+// often a thread may read a lock.
 const THREADS: usize = 32;
 const LOCKS: usize = 64;
 const CONDVARS: usize = 16;
 const QUEUE: usize = 32;
 const READS: usize = 255;
-/// Bytes before the line feed.
+/// A line has at most this many bytes before its line feed.
 const LINE: usize = 40;
+/// Lines after the one of this number are not read.
 const LINES: usize = 1_000_000;
-/// The output goes out when it has grown to this.
+/// The output is written when it has grown to this many bytes, and the input is read in chunks of as many.
 const PIECE: usize = 1 << 16;
 
+/// Answers are printed, answers and tables are, or answers for which no rule was applied.
 #[derive(Clone, Copy, PartialEq)]
 enum Mode {
     Replay,
@@ -54,7 +58,8 @@ fn main() {
     };
 
     let mut chunk = vec![0u8; PIECE];
-    // The begun line of the chunk before; one byte more than a line may have says that it is too long.
+    // The carry: the first bytes of a line that is not whole yet. One byte more than a line may have shows that it is
+    // too long.
     let mut carry: Vec<u8> = Vec::with_capacity(LINE + 1);
     'reading: loop {
         let got = input.read(&mut chunk).expect("standard input");
@@ -83,17 +88,18 @@ fn main() {
     session.end();
 }
 
-/// Standard streams as plain files: no buffer and no lock of the library between.
+/// Returns a standard stream as a plain file, without the library's buffer and lock.
 fn open(stream: std::os::fd::BorrowedFd) -> File {
     File::from(stream.try_clone_to_owned().expect("a standard stream"))
 }
 
-/// Adds to a begun line no more than shows that it is too long.
+/// Adds a part to the carry, but no more of it than shows that the line is too long.
 fn carry_on(carry: &mut Vec<u8>, part: &[u8]) {
     let room = LINE + 1 - carry.len();
     carry.extend_from_slice(&part[..part.len().min(room)]);
 }
 
+/// A script's run: its mode, the lines read, the reports of the last line, and the output that is not written yet.
 struct Session {
     mode: Mode,
     lines: usize,
@@ -103,6 +109,7 @@ struct Session {
 }
 
 impl Session {
+    /// Puts the answer to a line, given without its line feed, and the tables after it if they are asked for.
     fn line(&mut self, line: &[u8]) {
         self.lines += 1;
         self.reports.clear();
@@ -137,7 +144,7 @@ impl Session {
         }
     }
 
-    /// The refusals in the order of their numbers, then the event itself.
+    /// Serves the event of a line and keeps its reports, or returns the first refusal by number.
     fn answer(&mut self, line: &[u8]) -> Result<(), usize> {
         let event = read_line(line).ok_or(1usize)?;
         check_numbers(event)?;
@@ -149,6 +156,7 @@ impl Session {
         Ok(())
     }
 
+    /// Puts the `end` line with the totals and writes all that is left.
     fn end(&mut self) {
         let edges = if self.mode == Mode::Floor { 0 } else { detector::edges_stored() };
         let stuck = if self.mode == Mode::Floor { 0 } else { stuck_threads(detector::true_waits()) };
@@ -162,8 +170,9 @@ impl Session {
         self.flush();
     }
 
+    /// Writes the output so far.
     fn flush(&mut self) {
-        // A reader that went away (a comparison that is over) is no fault of ours.
+        // The reader may have gone away because its comparison is over. That is no failure.
         if self.to.write_all(&self.out).is_err() {
             std::process::exit(0);
         }
@@ -171,6 +180,7 @@ impl Session {
     }
 }
 
+/// Puts a number in decimal.
 pub fn put_number(out: &mut Vec<u8>, n: usize) {
     let mut digits = [0u8; 20];
     let mut at = digits.len();
@@ -186,7 +196,7 @@ pub fn put_number(out: &mut Vec<u8>, n: usize) {
     out.extend_from_slice(&digits[at..]);
 }
 
-/// A thread is stuck when one or more true waits lead from it back to itself.
+/// Returns how many threads are stuck, that is, from how many a way of true waits leads back to the thread.
 fn stuck_threads(rows: [u32; THREADS]) -> usize {
     (0..THREADS)
         .filter(|&t| {
@@ -204,6 +214,7 @@ fn stuck_threads(rows: [u32; THREADS]) -> usize {
 
 // Reading a line.
 
+/// Returns the event of a line, or nothing if the line does not read.
 fn read_line(line: &[u8]) -> Option<Event> {
     if line.len() > LINE {
         return None;
@@ -231,17 +242,19 @@ fn read_line(line: &[u8]) -> Option<Event> {
         b"ce" => Event::Ce(number(&mut fields)?, number(&mut fields)?, number(&mut fields)?),
         _ => return None,
     };
-    // A field too many does not read.
+    // A line with a field too many does not read.
     match fields.next() {
         Some(_) => None,
         None => Some(event),
     }
 }
 
+/// Returns the number that the next field spells, or nothing if it spells none.
 fn number<'a>(fields: &mut impl Iterator<Item = &'a [u8]>) -> Option<usize> {
     digits(fields.next()?)
 }
 
+/// Returns the number of one to three digits that a field spells, or nothing. Only 0 itself may start with 0.
 fn digits(field: &[u8]) -> Option<usize> {
     let fits = matches!(field.len(), 1..=3);
     let zero_leads = field.len() > 1 && field[0] == b'0';
@@ -251,6 +264,7 @@ fn digits(field: &[u8]) -> Option<usize> {
     Some(field.iter().fold(0, |n, &b| 10 * n + (b - b'0') as usize))
 }
 
+/// Returns the outcome that the next field spells, or nothing if it spells none.
 fn outcome<'a>(fields: &mut impl Iterator<Item = &'a [u8]>) -> Option<Outcome> {
     match fields.next()? {
         b"took" => Some(Outcome::Took),
@@ -259,7 +273,7 @@ fn outcome<'a>(fields: &mut impl Iterator<Item = &'a [u8]>) -> Option<Outcome> {
     }
 }
 
-/// The outcome of rt, which knows no hint.
+/// Returns the outcome of `rt`, or nothing for a hint, which `rt` does not take.
 fn plain<'a>(fields: &mut impl Iterator<Item = &'a [u8]>) -> Option<Outcome> {
     match outcome(fields)? {
         Outcome::Hint(_) => None,
@@ -269,7 +283,8 @@ fn plain<'a>(fields: &mut impl Iterator<Item = &'a [u8]>) -> Option<Outcome> {
 
 // The refusals.
 
-/// Refusals 3, 4, 5: by kind of number, not by its place in the line.
+/// Refuses a thread or hint, a lock or a condvar that is out of range (3, 4, 5). The kind of number decides, not its
+/// place in the line.
 fn check_numbers(event: Event) -> Result<(), usize> {
     let hint = |o: Outcome| if let Outcome::Hint(h) = o { h } else { 0 };
     let (thread, lock, condvar) = match event {
@@ -294,7 +309,7 @@ fn check_numbers(event: Event) -> Result<(), usize> {
     Ok(())
 }
 
-/// Refusals 7 and 8: a full queue, a full count.
+/// Refuses an event for which a queue (7) or a reader count (8) is full.
 fn check_room(event: Event) -> Result<(), usize> {
     match event {
         Event::Cb(_, c, _) if detector::queue_length(c) >= QUEUE => Err(7),

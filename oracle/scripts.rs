@@ -1,5 +1,5 @@
-//! The seeded generator of scripts. A kind is a name for one way of making scripts; the same kind,
-//! seed and size give the same bytes for ever.
+//! This module makes scripts from seeds. A kind is a name for one way of making them. The same kind, seed and size
+//! always give the same bytes.
 
 /// A small seeded generator of numbers (splitmix64).
 pub struct Rng(u64);
@@ -8,6 +8,7 @@ impl Rng {
     pub fn new(seed: u64) -> Rng {
         Rng(seed)
     }
+    /// Returns the next number.
     pub fn next(&mut self) -> u64 {
         self.0 = self.0.wrapping_add(0x9e37_79b9_7f4a_7c15);
         let mut z = self.0;
@@ -15,19 +16,23 @@ impl Rng {
         z = (z ^ (z >> 27)).wrapping_mul(0x94d0_49bb_1331_11eb);
         z ^ (z >> 31)
     }
+    /// Returns a number below n.
     pub fn below(&mut self, n: usize) -> usize {
         (self.next() % n as u64) as usize
     }
+    /// Returns a number from low to high, both included.
     pub fn between(&mut self, low: usize, high: usize) -> usize {
         low + self.below(high - low + 1)
     }
+    /// Returns true p times in a hundred.
     pub fn percent(&mut self, p: usize) -> bool {
         self.below(100) < p
     }
+    /// Returns one of the things listed.
     pub fn pick<'a, T>(&mut self, from: &'a [T]) -> &'a T {
         &from[self.below(from.len())]
     }
-    /// `count` different numbers below `limit`, in any order.
+    /// Returns `count` different numbers below `limit`, in any order.
     pub fn choose(&mut self, count: usize, limit: usize) -> Vec<usize> {
         let mut all: Vec<usize> = (0..limit).collect();
         for i in 0..count {
@@ -39,9 +44,9 @@ impl Rng {
     }
 }
 
-/// Every kind with what it is after. `sessions` is the fixed list of the documents' own examples.
+/// Every kind, with what it aims at. The kind `sessions` is a fixed list.
 pub const KINDS: &[(&str, &str)] = &[
-    ("sessions", "the sessions and examples of the documents, as they stand"),
+    ("sessions", "the sessions worked by hand and the examples of readings, as they stand"),
     ("mutexes", "plausible locking of mutexes, with frequent deadlocks"),
     ("rwlocks", "plausible locking of rwlocks and mutexes"),
     ("condvars", "plausible waiting and waking, with mutexes"),
@@ -63,14 +68,15 @@ pub const KINDS: &[(&str, &str)] = &[
     ("single-soup", "any event, up to where a thread would await two owners or a lock has two waiters"),
 ];
 
-/// Kinds whose scripts can be held beside the untouched source.
+/// Returns true for the kinds whose scripts can be compared with the untouched source.
 pub fn is_single(kind: &str) -> bool {
     kind.starts_with("single")
 }
 
+/// Returns a script of a kind. The size is about the number of its lines.
 pub fn make(kind: &str, seed: u64, size: usize) -> Vec<u8> {
     let mut rng = Rng::new(seed);
-    // The first numbers of near seeds are alike in no generator worth the name, but it costs nothing.
+    // One number is dropped, in case the first numbers of neighbouring seeds are alike.
     rng.next();
     let mut s = Script { rng, text: Vec::new(), lines: 0, size };
     match kind {
@@ -137,8 +143,8 @@ pub fn make(kind: &str, seed: u64, size: usize) -> Vec<u8> {
     s.text
 }
 
-/// The fixed scripts of the kind `sessions`: document 01's sessions and the examples of its readings,
-/// with all that is printed for them besides `ok` lines. Lines are parted by a comma, fields by a blank.
+/// The fixed scripts of the kind `sessions`: the sessions worked by hand and examples for single rules, with all that
+/// is printed for them except `ok` lines. A comma parts two lines, and a blank two fields.
 pub const SESSIONS: &[(&str, &str, &str)] = &[
     ("P1", "ma 1 5 took,ma 2 6 took,ma 1 6 -,ma 2 5 -", "cycle 1:6 2:5,end 4 1 2"),
     ("P2", "ma 1 5 took,ma 1 5 -", "end 2 0 1"),
@@ -162,8 +168,8 @@ pub const SESSIONS: &[(&str, &str, &str)] = &[
     ("refusals by kind", "cb 1 16 64,ma 1 64 32,ma 999 1 -,ma 1000 1 -,rt 32 64 5", "1 no 4,2 no 3,3 no 3,4 no 1,5 no 1,end 5 0 0"),
 ];
 
-/// Wrong readings that the other scripts of the fixed list pass by, each with the shortest script that
-/// `mutants` found for it. (One more, of lines behind the 1,000,000th, would be too long for the list.)
+/// Wrong readings that the other scripts of the fixed list do not notice, each with the shortest script that `mutants`
+/// found for it. One more, about lines after the 1,000,000th, would be too long for the list.
 pub const READINGS: &[(&str, &str)] = &[
     ("second-look-stops", "ma 6 25 31,ma 8 44 6,ma 12 25 19,ma 19 44 -,ma 31 44 -"),
     ("second-filter", "ra 25 40 24,ma 21 19 took,ra 21 40 -,ra 24 40 21"),
@@ -178,6 +184,7 @@ pub const READINGS: &[(&str, &str)] = &[
     ("ce-any-lock", "cb 10 15 8,ce 10 15 3"),
 ];
 
+/// Returns the script that a text of commas and blanks stands for.
 pub fn session(text: &str) -> Vec<u8> {
     let mut out = Vec::new();
     for line in text.split(',') {
@@ -189,8 +196,10 @@ pub fn session(text: &str) -> Vec<u8> {
 
 // Words with weights, for scripts without manners.
 
+/// Words, each with how often it comes.
 type Weights = &'static [(&'static str, usize)];
 
+// All words, those that leave stale edges more often, and those for one number used as mutex and as rwlock.
 const ALL: Weights = &[
     ("ma", 12), ("mc", 7), ("mr", 5), ("md", 2), ("ra", 8), ("rc", 5), ("rt", 5), ("rr", 6),
     ("wa", 9), ("wc", 5), ("wr", 5), ("rd", 2), ("cn", 1), ("cd", 1), ("cb", 7), ("c1", 4),
@@ -214,6 +223,7 @@ struct Pool {
     condvars: Vec<usize>,
 }
 
+/// A script that is being made, and about how many lines it is to have.
 struct Script {
     rng: Rng,
     text: Vec<u8>,
@@ -222,26 +232,31 @@ struct Script {
 }
 
 impl Script {
+    /// Returns true if the script has all its lines.
     fn full(&self) -> bool {
         self.lines >= self.size
     }
 
+    /// Adds a line.
     fn raw(&mut self, line: &[u8]) {
         self.text.extend_from_slice(line);
         self.text.push(b'\n');
         self.lines += 1;
     }
 
+    /// Adds the line of a word and numbers.
     fn say(&mut self, word: &str, numbers: &[usize]) {
         let line = spell(word, numbers, None);
         self.raw(&line);
     }
 
+    /// Adds the line of a try and its outcome.
     fn tried(&mut self, word: &str, t: usize, l: usize, outcome: &str) {
         let line = spell(word, &[t, l], Some(outcome));
         self.raw(&line);
     }
 
+    /// Returns a pool of t0 to t1 threads, l0 to l1 locks and up to c1 condvars.
     fn pool(&mut self, t0: usize, t1: usize, l0: usize, l1: usize, c1: usize) -> Pool {
         let (t, l, c) = (self.rng.between(t0, t1), self.rng.between(l0, l1), self.rng.between(1, c1));
         Pool {
@@ -251,7 +266,7 @@ impl Script {
         }
     }
 
-    /// Any event of the weighted words with numbers of the pool.
+    /// Returns the line of an event, with a word by the weights and numbers of the pool.
     fn any(&mut self, pool: &Pool, weights: Weights) -> Vec<u8> {
         let sum: usize = weights.iter().map(|w| w.1).sum();
         let mut at = self.rng.below(sum);
@@ -266,6 +281,7 @@ impl Script {
         self.event(word, pool)
     }
 
+    /// Returns the line of an event of this word with numbers of the pool.
     fn event(&mut self, word: &str, pool: &Pool) -> Vec<u8> {
         let t = *self.rng.pick(&pool.threads);
         let l = *self.rng.pick(&pool.locks);
@@ -292,6 +308,7 @@ impl Script {
         }
     }
 
+    /// Fills the script with any events.
     fn soup(&mut self, pool: &Pool, weights: Weights) {
         while !self.full() {
             let line = self.any(pool, weights);
@@ -299,7 +316,7 @@ impl Script {
         }
     }
 
-    /// Many readers of one lock, writers behind them, and mutexes by which readers wait for writers.
+    /// Makes many readers of one lock, writers that wait for them, and mutexes by which readers wait for writers.
     fn readers(&mut self) {
         let count = self.rng.between(4, 32);
         let threads = self.rng.choose(count, 32);
@@ -334,8 +351,8 @@ impl Script {
         }
     }
 
-    /// First all threads hold one lock (a completed acquisition leaves the holds of others alone),
-    /// then they deadlock; now and then somebody reads the common lock.
+    /// Makes all threads hold one lock, since an acquisition leaves the holds of others as they are, and then deadlock.
+    /// Now and then a thread reads the common lock.
     fn common(&mut self) {
         let count = self.rng.between(2, 4);
         let threads = self.rng.choose(count, 32);
@@ -369,7 +386,7 @@ impl Script {
         }
     }
 
-    /// Each thread takes a mutex of its own and awaits the next one's.
+    /// Makes each thread take a mutex of its own and await that of the next thread.
     fn ring(&mut self, pool: &Pool) {
         let n = pool.threads.len();
         let locks = self.rng.choose(n, 64);
@@ -381,14 +398,14 @@ impl Script {
         }
     }
 
-    /// Threads in a row, each awaiting what the next one owns, closed in any order; then the graph
-    /// is shaken, and all locks in use are destroyed before the next row.
+    /// Makes rows of threads, each of which awaits what the next one owns, closed in any order. Then any events follow,
+    /// and all locks in use are destroyed before the next row.
     fn chains(&mut self) {
         while !self.full() {
             let n = if self.rng.percent(50) { self.rng.between(2, 8) } else { self.rng.between(9, 32) };
             let threads = self.rng.choose(n, 32);
             let locks = self.rng.choose(n, 64);
-            // 0: mutex, 1: written, 2: read
+            // A lock with role 0 is a mutex, one with role 1 is written, one with role 2 is read.
             let role: Vec<usize> = (0..n).map(|_| self.rng.below(3)).collect();
             for i in 0..n {
                 match role[i] {
@@ -416,9 +433,8 @@ impl Script {
         }
     }
 
-    /// Layers of threads: those of one layer read one lock, for which all of the layer before wait, so
-    /// that many ways lead down. Before the lowest thread closes them to a cycle some links are made
-    /// stale.
+    /// Makes layers of threads. The threads of a layer read one lock, for which all threads of the layer before wait,
+    /// so that many ways lead down. Before the lowest thread closes them to a cycle, some links are made stale.
     fn ways(&mut self) {
         while !self.full() {
             let depth = self.rng.between(2, 4);
@@ -433,7 +449,7 @@ impl Script {
                 rest = &rest[size..];
             }
             layers.push(vec![low]);
-            // Lock i stands between layer i and the next; some threads read another layer's too.
+            // Lock i is between layer i and the next. Some threads read the lock of another layer too.
             for i in 0..=depth {
                 for &t in &layers[i + 1] {
                     self.say("rc", &[t, locks[i]]);
@@ -473,7 +489,7 @@ impl Script {
         }
     }
 
-    /// The way back to locks that nobody has and nobody awaits.
+    /// Destroys the locks, so that nobody has them and nobody awaits them.
     fn destroy_all(&mut self, locks: &[usize]) {
         for &l in locks {
             self.say("rd", &[l]);
@@ -481,7 +497,7 @@ impl Script {
         }
     }
 
-    /// Queues that fill up, pairs that stand twice, and all of them woken at once.
+    /// Makes queues that fill up, with pairs that stand twice, and wakes all of them at once.
     fn pairs(&mut self) {
         let pool = self.pool(2, 4, 2, 3, 2);
         while !self.full() {
@@ -507,6 +523,7 @@ impl Script {
         }
     }
 
+    /// Makes full queues, full counts and numbers out of range.
     fn limits(&mut self) {
         while !self.full() {
             match self.rng.below(4) {
@@ -522,6 +539,7 @@ impl Script {
         }
     }
 
+    /// Fills a queue up to about 32 pairs, goes on with it, and empties it.
     fn full_queue(&mut self) {
         let c = *self.rng.pick(&[0, 7, 15]);
         let pool = Pool { condvars: vec![c], ..self.pool(1, 4, 1, 3, 1) };
@@ -539,6 +557,7 @@ impl Script {
         self.raw(&line);
     }
 
+    /// Counts the reads of one thread up to about 255, and goes on with them.
     fn full_count(&mut self) {
         let t = *self.rng.pick(&[0, 5, 31]);
         let l = *self.rng.pick(&[0, 9, 63]);
@@ -565,7 +584,7 @@ impl Script {
         }
     }
 
-    /// An event in which some numbers lie at or above their limits.
+    /// Returns the line of an event in which some numbers lie at or above their limits.
     fn out_of_range(&mut self) -> Vec<u8> {
         let pool = Pool {
             threads: vec![0, 1, 30, 31, 31, 32, 33, 99, 100, 255, 256, 999],
@@ -577,6 +596,7 @@ impl Script {
         if word.is_empty() { self.any(&pool, ALL) } else { self.event(word, &pool) }
     }
 
+    /// Makes good lines, refused lines and broken lines.
     fn broken(&mut self) {
         let pool = self.pool(2, 4, 1, 3, 2);
         while !self.full() {
@@ -590,7 +610,7 @@ impl Script {
             };
             self.raw(&line);
         }
-        // The last line may lack its line feed, and may be empty or a broken one.
+        // The last line may lack its line feed, and may be broken.
         match self.rng.below(4) {
             0 => {
                 self.text.pop();
@@ -600,7 +620,7 @@ impl Script {
         }
     }
 
-    /// One small fault in a good line.
+    /// Returns a good line with one fault in it.
     fn spoil(&mut self, good: Vec<u8>) -> Vec<u8> {
         let mut line = good;
         let tabs: Vec<usize> = (0..line.len()).filter(|&i| line[i] == b'\t').collect();
@@ -619,23 +639,23 @@ impl Script {
             8 => line.insert(0, *self.rng.pick(b" \t\0m")),
             9 => line.make_ascii_uppercase(),
             10 => line[0] = line[0].to_ascii_uppercase(),
-            // a leading zero, a sign, a number of four digits
+            // The next ones are a leading zero, a sign, and a number of four digits.
             11 => line.insert(tab + 1, b'0'),
             12 => line.insert(tab + 1, *self.rng.pick(b"+-")),
             13 => {
                 line.truncate(tab);
                 line.extend_from_slice(b"\t1000");
             }
-            // a field too few, a field too many
+            // The next ones are a field too few and a field too many.
             14 => line.truncate(*tabs.last().unwrap()),
             15 => line.extend_from_slice(*self.rng.pick(&[&b"\t1"[..], b"\t-", b"\ttook"])),
-            // outcomes that are none, and a hint for rt
+            // The next ones are texts that are no outcome, and a hint for `rt`.
             16 => {
                 line.truncate(tab);
                 line.extend_from_slice(*self.rng.pick(&[&b"\ttake"[..], b"\ttookk", b"\tTook", b"\t--", b"\t", b"\t-1", b"\t00", b"\t01"]));
             }
             17 => line = spell("rt", &[self.rng.below(34), self.rng.below(66)], Some(&self.rng.below(40).to_string())),
-            // words that are none
+            // This one is a text that is no word.
             18 => {
                 let word = *self.rng.pick(&["mb", "te", "c2", "m", "maa", "", "wt", "cc", "mt"]);
                 line.splice(0..2, word.bytes());
@@ -645,13 +665,13 @@ impl Script {
                 line[at] = self.rng.below(256) as u8;
                 line.retain(|&b| b != b'\n');
             }
-            // a line filled up to some length about the limit of 40
+            // This one is a line of about 40 bytes, which is the limit.
             20 => {
                 let length = self.rng.between(38, 44);
                 line.resize(length, *self.rng.pick(b"0\t 1"));
             }
             21 => {
-                // A good line behind 40 bytes, for a reader that takes the rest as a line of its own.
+                // A good line comes after about 40 bytes, for a reader that would take the rest as a line of its own.
                 let mut long = vec![b'x'; self.rng.between(39, 42)];
                 long.extend_from_slice(&line);
                 line = long;
@@ -668,7 +688,7 @@ impl Script {
         line
     }
 
-    /// Texts longer than any buffer: good lines, broken ones, and lines longer than a chunk.
+    /// Makes texts longer than any buffer, with good lines, broken lines, and lines longer than a chunk.
     fn long(&mut self) {
         let pool = self.pool(3, 6, 2, 5, 2);
         self.size = self.size.max(30) * 3;
@@ -695,7 +715,7 @@ impl Script {
         }
     }
 
-    /// All numbers, half with manners and half without.
+    /// Uses all numbers, in half of the scripts with plausible locking and in the other half with any events.
     fn wide(&mut self) {
         if self.rng.percent(50) {
             let (t, l, c) = (self.rng.between(16, 32), self.rng.between(16, 64), self.rng.between(4, 16));
@@ -712,6 +732,7 @@ impl Script {
     }
 }
 
+/// Returns the line of a word, numbers and an outcome.
 fn spell(word: &str, numbers: &[usize], outcome: Option<&str>) -> Vec<u8> {
     let mut line = word.as_bytes().to_vec();
     for n in numbers {
@@ -727,32 +748,33 @@ fn spell(word: &str, numbers: &[usize], outcome: Option<&str>) -> Vec<u8> {
 
 // Plausible locking.
 
-/// How the threads of a world behave, mostly in percent of their steps.
+/// How the threads of a world behave. Most fields are in percent: how often a step is of that sort.
 #[derive(Clone, Copy)]
 pub struct Manners {
-    /// a running thread takes a lock rather than gives one back
+    /// A running thread takes a lock rather than gives one back.
     pub take: usize,
-    /// it tries a lock that it has
+    /// A running thread tries a lock that it has.
     pub relock: usize,
-    /// a blocked attempt names the owner, or anybody
+    /// A blocked attempt has the owner as its hint, or any thread.
     pub hint_right: usize,
     pub hint_wrong: usize,
-    /// a lock or condvar is destroyed
+    /// A lock or a condvar is destroyed.
     pub destroy: usize,
-    /// any event at all
+    /// Any event at all comes.
     pub noise: usize,
-    /// waiting and waking
+    /// A running thread begins a wait on a condvar, or wakes others.
     pub condvars: usize,
-    /// a blocked thread tries once more
+    /// A blocked thread tries once more.
     pub again: usize,
-    /// a blocked thread makes who has its lock give it back, so that knots do not stay
+    /// A blocked thread makes an owner of its lock give it back, so that deadlocks do not stay.
     pub force: usize,
-    /// a thread has no more locks than this
+    /// A thread has no more locks than this number.
     pub most: usize,
-    /// no lock gets a second waiter and no wait a second owner
+    /// No lock gets a second waiter, and no wait a second owner.
     pub single: bool,
 }
 
+/// The behaviour that the kinds start from.
 pub const PLAIN: Manners = Manners {
     take: 65,
     relock: 3,
@@ -767,6 +789,7 @@ pub const PLAIN: Manners = Manners {
     single: false,
 };
 
+/// How a thread has a lock, or wants it.
 #[derive(Clone, Copy, PartialEq)]
 enum Hold {
     Mutex,
@@ -774,6 +797,7 @@ enum Hold {
     Write,
 }
 
+/// What a thread does: it runs, is blocked on a lock, waits on a condvar, or is woken and wants the condvar's mutex.
 #[derive(Clone, Copy, PartialEq)]
 enum Doing {
     Running,
@@ -782,27 +806,30 @@ enum Doing {
     Woken(usize),
 }
 
+/// A lock of a world and who has it.
 struct Lock {
     number: usize,
     rw: bool,
-    /// owner of the mutex, or writer
+    /// The owner of a mutex, or the writer.
     owner: Option<usize>,
     readers: Vec<usize>,
 }
 
-/// Threads, locks and condvars as a program would have them. Places, not numbers, name them inside.
+/// Threads, locks and condvars as a program would have them. Inside they go by their places in these lists, not by the
+/// numbers that are printed.
 pub struct World<'a> {
     s: &'a mut Script,
     manners: Manners,
     pool: Pool,
     doing: Vec<Doing>,
     locks: Vec<Lock>,
-    /// which mutex each condvar goes with
+    /// The mutex that goes with each condvar.
     partner: Vec<usize>,
     queues: Vec<Vec<usize>>,
 }
 
 impl<'a> World<'a> {
+    /// Returns a world in which all threads run and all locks are free. Of the locks `rw` percent are rwlocks.
     fn new(s: &'a mut Script, threads: usize, locks: usize, rw: usize, condvars: usize, manners: Manners) -> World<'a> {
         let pool = Pool {
             threads: s.rng.choose(threads, 32),
@@ -814,7 +841,7 @@ impl<'a> World<'a> {
             let rw = s.rng.percent(rw);
             all.push(Lock { number, rw, owner: None, readers: Vec::new() });
         }
-        // A condvar needs a mutex to go with.
+        // A condvar needs a mutex that goes with it.
         all[0].rw = rw == 100;
         let mutexes: Vec<usize> = (0..locks).filter(|&i| !all[i].rw).collect();
         let partner = (0..condvars).map(|_| *s.rng.pick(&mutexes)).collect();
@@ -829,12 +856,13 @@ impl<'a> World<'a> {
         }
     }
 
+    /// Fills the script.
     fn run(mut self) {
         let mut idle = 0;
         while !self.s.full() {
             let before = self.s.lines;
             self.step();
-            // Threads that may run but find nothing to do leave a knot as it is.
+            // Threads that may run but find nothing to do would leave a deadlock as it is.
             idle = if self.s.lines == before { idle + 1 } else { 0 };
             if idle > 300 {
                 self.untie();
@@ -842,6 +870,7 @@ impl<'a> World<'a> {
         }
     }
 
+    /// Makes one step: any event, something destroyed, or a step of one thread.
     fn step(&mut self) {
         if self.s.rng.percent(self.manners.noise) {
             let line = self.s.any(&self.pool, ALL);
@@ -883,10 +912,12 @@ impl<'a> World<'a> {
         }
     }
 
+    /// Returns true if no thread runs.
     fn nobody_runs(&self) -> bool {
         self.doing.iter().all(|d| *d != Doing::Running)
     }
 
+    /// Makes a step of a running thread.
     fn running(&mut self, t: usize) {
         if self.s.rng.percent(self.manners.condvars) && !self.partner.is_empty() {
             self.wait_or_wake(t);
@@ -897,6 +928,7 @@ impl<'a> World<'a> {
         }
     }
 
+    /// Returns the locks that a thread has, each with how it has it.
     fn holds(&self, t: usize) -> Vec<(usize, Hold)> {
         let mut held = Vec::new();
         for (i, l) in self.locks.iter().enumerate() {
@@ -910,16 +942,18 @@ impl<'a> World<'a> {
         held
     }
 
+    /// Returns true if the thread can take the lock so.
     fn is_free(&self, t: usize, l: usize, hold: Hold) -> bool {
         let lock = &self.locks[l];
         match hold {
             Hold::Mutex => lock.owner.is_none(),
-            // A read beside one's own write happens too: nothing in the rules forbids it.
+            // A thread may read a lock that it writes: nothing in the rules forbids it.
             Hold::Read => lock.owner.is_none() || lock.owner == Some(t),
             Hold::Write => lock.owner.is_none() && lock.readers.is_empty(),
         }
     }
 
+    /// Returns true if a thread awaits the lock.
     fn is_awaited(&self, l: usize) -> bool {
         self.doing.iter().any(|d| match *d {
             Doing::Blocked(m, _) => m == l,
@@ -928,6 +962,7 @@ impl<'a> World<'a> {
         })
     }
 
+    /// Makes a thread take any lock, or attempt it if it is not free.
     fn take(&mut self, t: usize) {
         let l = self.s.rng.below(self.locks.len());
         let held = self.holds(t).iter().any(|h| h.0 == l);
@@ -940,7 +975,7 @@ impl<'a> World<'a> {
             true => Hold::Write,
         };
         if self.is_free(t, l, hold) {
-            // Two readers would be two owners for the writer to come.
+            // Two readers would be two owners for a writer that comes later.
             if self.manners.single && hold == Hold::Read && !self.locks[l].readers.is_empty() {
                 return;
             }
@@ -953,10 +988,12 @@ impl<'a> World<'a> {
         }
     }
 
+    /// Returns the numbers of a thread and a lock.
     fn name(&self, t: usize, l: usize) -> (usize, usize) {
         (self.pool.threads[t], self.locks[l].number)
     }
 
+    /// Makes a thread take a free lock, by an attempt that succeeds or by an acquisition.
     fn took(&mut self, t: usize, l: usize, hold: Hold) {
         let (tn, ln) = self.name(t, l);
         let slow = self.s.rng.percent(50);
@@ -974,6 +1011,7 @@ impl<'a> World<'a> {
         self.own(t, l, hold);
     }
 
+    /// Notes that a thread has a lock and runs.
     fn own(&mut self, t: usize, l: usize, hold: Hold) {
         match hold {
             Hold::Read => self.locks[l].readers.push(t),
@@ -982,6 +1020,7 @@ impl<'a> World<'a> {
         self.doing[t] = Doing::Running;
     }
 
+    /// Makes a blocked thread acquire its lock.
     fn complete(&mut self, t: usize, l: usize, hold: Hold) {
         let (tn, ln) = self.name(t, l);
         let word = match hold {
@@ -993,6 +1032,7 @@ impl<'a> World<'a> {
         self.own(t, l, hold);
     }
 
+    /// Makes an attempt that is blocked, with a hint or without.
     fn attempt(&mut self, t: usize, l: usize, hold: Hold) {
         let (tn, ln) = self.name(t, l);
         let word = match hold {
@@ -1019,6 +1059,7 @@ impl<'a> World<'a> {
         self.doing[t] = Doing::Blocked(l, hold);
     }
 
+    /// Makes a thread give back one of its locks.
     fn give_back(&mut self, t: usize) {
         let held = self.holds(t);
         if held.is_empty() {
@@ -1028,6 +1069,7 @@ impl<'a> World<'a> {
         self.release(t, l, hold);
     }
 
+    /// Makes a thread give back this lock.
     fn release(&mut self, t: usize, l: usize, hold: Hold) {
         let (tn, ln) = self.name(t, l);
         match hold {
@@ -1044,6 +1086,7 @@ impl<'a> World<'a> {
         }
     }
 
+    /// Makes a thread that has a condvar's mutex wait on the condvar, or one that has not wake others.
     fn wait_or_wake(&mut self, t: usize) {
         let c = self.s.rng.below(self.partner.len());
         let cn = self.pool.condvars[c];
@@ -1073,6 +1116,7 @@ impl<'a> World<'a> {
         }
     }
 
+    /// Ends the wait of a thread, which takes the mutex if that is free.
     fn wait_ends(&mut self, t: usize, c: usize) {
         let l = self.partner[c];
         let (tn, ln) = self.name(t, l);
@@ -1084,6 +1128,7 @@ impl<'a> World<'a> {
         }
     }
 
+    /// Destroys a condvar or makes it anew, or destroys a lock.
     fn destroy(&mut self) {
         if !self.partner.is_empty() && self.s.rng.percent(25) {
             let c = self.s.rng.below(self.partner.len());
@@ -1106,7 +1151,7 @@ impl<'a> World<'a> {
         }
     }
 
-    /// Who has a lock gives it back, whatever it waits for itself.
+    /// Makes an owner of a lock give it back, whatever that thread waits for itself.
     fn force(&mut self, l: usize) {
         let lock = &self.locks[l];
         if let Some(o) = lock.owner {
@@ -1117,7 +1162,7 @@ impl<'a> World<'a> {
         }
     }
 
-    /// All threads wait: somebody is made to give something back, or a lock goes.
+    /// Helps when all threads wait: one of them gives a lock back or ends its wait, or a lock is destroyed.
     fn untie(&mut self) {
         let t = self.s.rng.below(self.doing.len());
         let held = self.holds(t);
@@ -1136,8 +1181,8 @@ impl<'a> World<'a> {
     }
 }
 
-/// The scripts of the benchmark. In the first three threads often wait and knots are tied and untied:
-/// many threads and locks; few and contended; mostly rwlocks. In the last hardly anybody waits.
+/// Returns a script of the benchmark. In the first three, threads often wait, and deadlocks come and go: many threads
+/// and locks, few and contended, mostly rwlocks. In the last, `calm`, hardly any thread waits.
 pub fn load(name: &str, seed: u64, size: usize) -> Vec<u8> {
     let mut s = Script { rng: Rng::new(seed), text: Vec::new(), lines: 0, size };
     let (threads, locks, rw, condvars, share) = match name {
@@ -1158,7 +1203,7 @@ pub fn load(name: &str, seed: u64, size: usize) -> Vec<u8> {
         ..PLAIN
     };
     World::new(&mut s, threads, locks, rw, condvars, manners).run();
-    // A step may write two lines.
+    // A step may add two lines, so the script may be one line too long.
     let lines = s.text.split_inclusive(|&b| b == b'\n').take(size);
     let length = lines.map(|l| l.len()).sum();
     s.text.truncate(length);

@@ -1,29 +1,31 @@
-//! What one event can cost: states made to be slow, an event repeated in each, and a climb from the
-//! slowest of them by small changes.
+//! This module looks for the slowest event. It makes states in which events are slow, repeats an event in each, and
+//! goes on from the slowest of them by small changes.
 //!
-//! The cost of an event is the CPU time of a script in which it is repeated, less that of the same
-//! script with `cn` in its place, divided by how often it stands there.
+//! The cost of an event is the CPU time of a script in which it is repeated, less that of the same script with `cn` in
+//! its place, divided by the number of repetitions.
 use crate::clock;
 use crate::compare::Program;
 use crate::scripts::Rng;
 use std::path::{Path, PathBuf};
 
-/// How many changes of the slowest state are tried.
+/// This many changes of the slowest state are tried.
 const CHANGES: usize = 60;
 
+/// A state and an event that is repeated in it.
 #[derive(Clone)]
 struct Case {
     name: String,
-    /// makes the state
+    /// These lines make the state.
     setup: Vec<String>,
-    /// stands before each repetition, to lead back to that state
+    /// These lines stand before each repetition and lead back to the state.
     before: Vec<String>,
     event: String,
-    /// stands in the event's place to see what all the rest costs
+    /// This line stands in the event's place, to measure what all the rest costs.
     cheap: String,
 }
 
 impl Case {
+    /// Returns the script that makes the state and then repeats an event in it.
     fn script(&self, times: usize, event: &str) -> Vec<u8> {
         let mut text = String::new();
         let mut add = |line: &str| {
@@ -42,7 +44,7 @@ impl Case {
         text.into_bytes()
     }
 
-    /// Microseconds for one event; the number of repetitions grows until they can be told apart.
+    /// Returns the microseconds for one event. The number of repetitions grows until the difference is large enough.
     fn cost(&self, program: &Program, file: &Path) -> f64 {
         let most = 900_000 / (self.before.len() + 1);
         let mut times = 16;
@@ -59,9 +61,10 @@ impl Case {
     }
 }
 
+/// Prints the cost of each case for each program, and leaves the script with the slowest event for the first program.
 pub fn search(programs: &[String], bin: &Path) {
     let folder = bin.join("../slowest");
-    std::fs::create_dir_all(&folder).expect("a folder for dear scripts");
+    std::fs::create_dir_all(&folder).expect("a folder for slow scripts");
     let file = folder.join(format!("{}.script", std::process::id()));
     let programs: Vec<Program> = programs.iter().map(|p| Program::new(p)).collect();
 
@@ -77,7 +80,7 @@ pub fn search(programs: &[String], bin: &Path) {
         }
     }
 
-    // From the slowest case on: keep a change of the state when it makes the event slower.
+    // From the slowest case on, a change of the state is kept if it makes the event slower.
     let (mut top, mut case) = best.expect("a case");
     let mut rng = Rng::new(11);
     let mut kept = 0;
@@ -85,7 +88,7 @@ pub fn search(programs: &[String], bin: &Path) {
         let mut changed = case.clone();
         change(&mut changed.setup, &mut rng);
         let cost = changed.cost(&programs[0], &file);
-        // A second look, since one measurement may have been unlucky.
+        // The cost is measured twice, since one measurement may be off.
         if cost > top * 1.02 && changed.cost(&programs[0], &file) > top * 1.02 {
             top = cost;
             case = changed;
@@ -103,11 +106,13 @@ pub fn search(programs: &[String], bin: &Path) {
         case.event, costs[0], case.setup.len() + case.before.len() + 1);
 }
 
+/// Prints one row of the table of costs.
 fn print_row(name: &str, costs: &[f64]) {
     let cells: Vec<String> = costs.iter().map(|c| format!("{c:.1}")).collect();
     println!("| {name} | {} |", cells.join(" | "));
 }
 
+/// Makes one to three small changes: a line goes, two lines change places, or a line is added.
 fn change(setup: &mut Vec<String>, rng: &mut Rng) {
     for _ in 0..rng.between(1, 3) {
         let at = rng.below(setup.len());
@@ -135,15 +140,15 @@ fn change(setup: &mut Vec<String>, rng: &mut Rng) {
     }
 }
 
-/// Lock 0 is read by `readers` threads and awaited for writing by `waiters` threads, counted down
-/// from 31: with all of both every refresh of lock 0 tries some thousand edges over a full graph.
+/// Returns the lines of a state in which `readers` threads read lock 0 and `waiters` threads wait to write it, both
+/// counted down from 31. With all of them every refresh of lock 0 tries some thousand edges over a full graph.
 fn crowd(readers: usize, waiters: usize, stale: bool) -> Vec<String> {
     let mut setup = Vec::new();
     for t in (0..readers).map(|i| 31 - i) {
         setup.push(format!("rc {t} 0"));
     }
-    // Thread 1 awaits lock 3, which is gone, so that its edge to thread 0 is stale for good: every path
-    // through it is found, is not true, and brings the refreshes.
+    // Thread 1 awaits lock 3, which is gone, so its edge to thread 0 stays stale. Every path through this edge is
+    // found, is not true, and leads to the refreshes.
     if stale {
         setup.extend(["wa 1 3 0".to_string(), "rd 3".to_string()]);
     }
@@ -153,6 +158,7 @@ fn crowd(readers: usize, waiters: usize, stale: bool) -> Vec<String> {
     setup
 }
 
+/// Returns the cases to measure.
 fn cases() -> Vec<Case> {
     let mut cases = Vec::new();
     let mut add = |name: &str, setup: Vec<String>, before: Vec<String>, event: &str, cheap: &str| {
@@ -176,7 +182,7 @@ fn cases() -> Vec<Case> {
     add("31 readers, 31 writers waiting", crowd(31, 31, false), vec![], "rr 0 0", "cn 0");
     add("31 readers, 31 writers waiting", crowd(31, 31, false), vec![], "mr 0 0", "cn 0");
 
-    // A path that is not true: thread 0 tries what thread 31 has, and 31 awaits lock 0 beside all.
+    // Here a path is not true: thread 0 tries what thread 31 has, and thread 31 awaits lock 0 like all the others.
     for (readers, waiters) in [(31, 16), (31, 24), (31, 30)] {
         let name = format!("{readers} readers, {waiters} writers waiting, a stale edge");
         let setup = crowd(readers, waiters, true);
@@ -186,7 +192,7 @@ fn cases() -> Vec<Case> {
         add(&name, setup, fill, "ca 0", "cn 0");
     }
 
-    // Destroying: each repetition makes its waiters anew, so it is the whole unit that is dear.
+    // For `md` each repetition makes its waiters anew, so the whole unit is slow, not the event alone.
     let waits: Vec<String> = (0..31).map(|t| format!("ma {t} 2 31")).collect();
     add("31 threads await it", vec![], waits, "md 2", "cn 0");
     cases

@@ -1,4 +1,5 @@
--- The texts of replay's lines as the parts that are put one behind the other, and the reports one by one.
+-- The printed lines consist of parts that are put one after the other, and the reports of a buffer are printed
+-- one by one.
 use mathlib.Core.Path.{_≡_, refl, ap, _∙_}
 use mathlib.Core.List.{List, [], _∷_, _++_, append-assoc, append-nil}
 use Prim.Native.Nat.{ℕ, zero, suc, _+_, _*_, _-_, _<_, _≤_}
@@ -14,7 +15,7 @@ use Rattle.answers.specs.Answers.{verdict, number, replyText, itemText, 
 use Rattle.detector.specs.declared.reply.Reply.{Reply}
 use Rattle.detector.specs.declared.reply.Reply.the-variants.{Reports, Refused}
 
--- fields, a tab before each, and a line feed
+-- Returns the fields, each with a tab before it, and then a line feed.
 abbrev ended : List (List ℕ) → List ℕ
 ended [] = text "\n"
 ended (f ∷ fs) = withTab f ++ ended fs
@@ -27,6 +28,7 @@ tabbed-ended (f ∷ fs) = append-assoc (withTab f) (tabbed fs) (text "\n") ∙ a
 line-ended : (f : List ℕ) (fs : List (List ℕ)) → line (f ∷ fs) ≡ f ++ ended fs
 line-ended f fs = append-assoc f (tabbed fs) (text "\n") ∙ ap (λ (x : List ℕ). f ++ x) (tabbed-ended fs)
 
+-- The reply line, the `end` line and a `cycle` line consist of the parts that the code puts.
 pub reply-parts : (n : ℕ) (r : Reply) → replyText n r ≡ decimal n ++ (withTab (verdict r) ++ (withTab (decimal (number r)) ++ text "\n"))
 unfolding replyText
 reply-parts n r = line-ended (decimal n) (verdict r ∷ decimal (number r) ∷ [])
@@ -39,7 +41,7 @@ pub cycle-parts : (es : List Entry) → cycleText es ≡ text "cycle" ++ (itemsT
 unfolding cycleText
 cycle-parts es = append-assoc (text "cycle") (itemsText es) (text "\n")
 
--- ---- what stands at a place of the report buffer
+-- ---- What stands at a place of the report buffer
 
 suc-sub-one : (n : ℕ) → suc n - 1 ≡ n
 suc-sub-one n = omega arith
@@ -81,7 +83,7 @@ size-more (suc n) p m b h e =
     let s : reportSize (drop p b) ≡ 1 + entryBytes * m = simp (getD-drop, add-zero, ← e) in
     rw (drop-drop (reportSize (drop p b)) p b, next-report b p m e, suc-sub-one) (omega arith)
 
--- ---- an answer
+-- ---- The answer to a refused line, and to a served one
 
 pub answer-no : (n k : ℕ) (r : Reply) (b : List ℕ) → r ≡ Refused k → answerText n r b ≡ replyText n r
 unfolding answerText reportsIn cyclesText

@@ -1,9 +1,9 @@
--- What the call that prints reports asks.
+-- What the calls that print reports ask.
 use Prim.Native.Nat.{ℕ, _≤_}
 use mathlib.Core.List.{List}
 use lib.ListN.{length}
 use Rattle.answers.specs.Reports.{reportsSize}
 
--- the reports stand in the buffer
+-- States that the first n reports of b end within b.
 abbrev pub Held : ℕ → List ℕ → Type 0
 Held n b = reportsSize n b ≤ length b

@@ -1,4 +1,4 @@
-// What is printed for a line of the script, and the last line.
+// This module puts the answer to a line of the script, and the `end` line.
 use crate::cycle::put_cycles;
 use detector::Detector;
 use detector::Queue;
@@ -13,14 +13,17 @@ ghost use Rattle.detector.specs.Promises.{reportsOf};
 ghost use Rattle.answers.specs.Answers.{replyText, answerText, endText};
 ghost use Rattle.answers.specs.Promises.{Held};
 
-// Room for an item and its tab; for the longest answer to one line, with 32 reports of 32 entries; and for the last line.
+// An item of a `cycle` line takes at most this many bytes with the tab before it.
 const ITEM_BYTES: usize = 8;
 
+// An answer takes at most this many bytes: a reply line of 45, and 32 `cycle` lines of 32 items each.
 pub const ANSWER_BYTES: usize = 45 + Queue::PLACES * (6 + Detector::THREADS * ITEM_BYTES);
 
+// The `end` line takes at most this many bytes.
 pub const END_BYTES: usize = 67;
 
-// Line number, `ok` and the number of reports, or `no` and the refusal.
+// Puts the reply line and returns the place after it. The line has its number, then `ok` and the number of
+// reports or `no` and the refusal.
 fn put_reply(out: &mut [u8], at: usize, line: usize, reply: Reply) -> usize
     requires { ⌜ Room (now out) at (replyText line reply) ⌝ }
     ensures { λ r. ⌜ Put (now (out .entry)) at (replyText line reply) (now (out .exit)) r ⌝ }
@@ -40,7 +43,8 @@ fn put_reply(out: &mut [u8], at: usize, line: usize, reply: Reply) -> usize
     }
 }
 
-// The answer to the line, and a line for each report that stands in the report buffer.
+// Puts the reply line and a `cycle` line for each report in the report buffer, and returns the place after
+// them. A refusal has no `cycle` lines.
 pub fn put_answer(out: &mut [u8], at: usize, line: usize, reply: Reply, buf: &[u8]) -> usize
     requires { ⌜ Held (reportsOf reply) (now buf) ⌝ }
     requires { ⌜ Room (now out) at (answerText line reply (now buf)) ⌝ }
@@ -53,7 +57,7 @@ pub fn put_answer(out: &mut [u8], at: usize, line: usize, reply: Reply, buf: &[u
     put_cycles(out, a, buf, n)
 }
 
-// The last line: lines, edges stored, stuck threads.
+// Puts the `end` line with the three totals and returns the place after it.
 pub fn put_end(out: &mut [u8], at: usize, lines: usize, edges: usize, stuck: usize) -> usize
     requires { ⌜ Room (now out) at (endText lines edges stuck) ⌝ }
     ensures { λ r. ⌜ Put (now (out .entry)) at (endText lines edges stuck) (now (out .exit)) r ⌝ }

@@ -1,4 +1,4 @@
-// A `cycle` line for each report in the report buffer.
+// This module puts a `cycle` line for each report in the report buffer.
 use text::put_byte;
 use text::put_bytes;
 use text::put_field;
@@ -15,7 +15,8 @@ ghost use Rattle.answers.specs.Reports.{entryIn, entriesIn, reportIn, re
 ghost use Rattle.answers.specs.Answers.{itemText, itemsText, cycleText, cyclesText};
 ghost use Rattle.answers.specs.Promises.{Held};
 
-// A tab and the item of the entry at from.
+// Puts a tab and the item `thread:lock` of the entry that starts at `from` in the report buffer, and returns
+// the place after the item.
 fn put_item(out: &mut [u8], at: usize, buf: &[u8], from: usize) -> usize
     requires { ⌜ from + entryBytes ≤ length (now buf) ⌝ }
     requires { ⌜ Room (now out) at (withTab (itemText (entryIn (drop from (now buf))))) ⌝ }
@@ -26,7 +27,7 @@ fn put_item(out: &mut [u8], at: usize, buf: &[u8], from: usize) -> usize
     put_number(out, b, wide(buf[from + 1]))
 }
 
-// The items of n entries, the first of them at from.
+// Puts the items of n entries, the first of which starts at `from`, and returns the place after them.
 fn put_items(out: &mut [u8], at: usize, buf: &[u8], from: usize, n: usize) -> usize
     requires { ⌜ from + entryBytes * n ≤ length (now buf) ⌝ }
     requires { ⌜ Room (now out) at (itemsText (entriesIn n (drop from (now buf)))) ⌝ }
@@ -43,7 +44,7 @@ fn put_items(out: &mut [u8], at: usize, buf: &[u8], from: usize, n: usize) -> us
     to
 }
 
-// The line of the report at from, which has n entries.
+// Puts the `cycle` line of the report of n entries that starts at `from`, and returns the place after it.
 fn put_cycle(out: &mut [u8], at: usize, buf: &[u8], from: usize, n: usize) -> usize
     requires { ⌜ (n ≡ getD (now buf) from 0) × (from + 1 + entryBytes * n ≤ length (now buf)) ⌝ }
     requires { ⌜ Room (now out) at (cycleText (reportIn (drop from (now buf)))) ⌝ }
@@ -54,7 +55,8 @@ fn put_cycle(out: &mut [u8], at: usize, buf: &[u8], from: usize, n: usize) -> us
     put_byte(out, b, b'\n')
 }
 
-// A line for each of the reports that stand from the buffer's first byte on.
+// Puts a `cycle` line for each of the reports and returns the place after them. The first report starts at the
+// buffer's first byte.
 pub(crate) fn put_cycles(out: &mut [u8], at: usize, buf: &[u8], reports: usize) -> usize
     requires { ⌜ Held reports (now buf) ⌝ }
     requires { ⌜ Room (now out) at (cyclesText (reportsIn reports (now buf))) ⌝ }

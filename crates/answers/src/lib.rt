@@ -1,4 +1,4 @@
-// The lines that replay prints, put byte by byte into a buffer that the caller lends.
+// This crate puts the lines that replay prints, byte by byte, into a buffer that the caller lends.
 mod answer;
 mod cycle;
 

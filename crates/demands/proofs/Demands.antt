@@ -1,4 +1,4 @@
--- The demands carried to what `step` returns, by its promise alone.
+-- The demands are carried to what `step` returns, by its promise alone.
 use mathlib.Core.Path.{_≡_, refl, sym, ap, ap₂, _∙_, subst, subst₂}
 use mathlib.Core.List.{List, [], _∷_, _++_}
 use Prim.Native.Nat.{ℕ, zero, suc, _<_}
@@ -65,14 +65,14 @@ refused-by-number d ev r b e s = record { number = number (refusalOf d (length b
     same : 0 < refusalOf d (length b) ev → (r .detector ≡ d) × (e ≡ b)
     same h = let p = s .refused h in (ap (λ (a : Stepped). a .detector) (p .0), p .1)
 
--- ---- the rules' run
+-- ---- The rules' run
 
 reach-snoc : (es : List Event) (e : Event) (x : Tables) → reach x (es ++ (e ∷ [])) ≡ effect (reach x es) bufferBytes e .tables
 unfolding reach
 reach-snoc [] e x = refl
 reach-snoc (f ∷ es) e x = reach-snoc es e (effect x bufferBytes f .tables)
 
--- one event more, with any buffer
+-- One event more, with any buffer, leads to reached tables.
 pub reached-next : (x : Tables) (n : ℕ) (e : Event) → Reached x → Reached (effect x n e .tables)
 reached-next x n e r = go (ℕ-discrete (refusal x n e) 0)
   where
@@ -90,7 +90,7 @@ unfolding reachBy
 reached-by [] x r = r
 reached-by (k ∷ ks) x r = reached-by ks (onward x k) (reached-next x (length (k .lent)) (k .event) r)
 
--- ---- no rule gives number 2
+-- ---- No rule gives refusal 2
 
 refused-replied : (x : Tables) (n : ℕ) (e : Event) → refusedBy (replied x n e) ≡ refusal x n e
 refused-replied x n e = go (ℕ-discrete (refusal x n e) 0)
@@ -109,7 +109,7 @@ no-two (k ∷ ks) x = (
 
 -- ---- DEMANDS 2 AND 3
 
--- what comes back is what the rules say
+-- States that what a call gives back is what the rules give.
 record Follows (d : Detector) (ev : Event) (r : Stepped) (b e : List ℕ) : Type 0 where
   reply : r .reply ≡ replied (tables d) (length b) ev
   bytes : e ≡ laid b 0 (written (effect (tables d) (length b) ev .reports))
@@ -151,7 +151,7 @@ follows d ev r b e v s = go (ℕ-discrete (refusal (tables d) (length b) ev) 0)
           valid = subst Valid (sym (ap (λ (a : Stepped). a .detector) (p .0))) v;
         }
 
--- any calls from a valid state
+-- States that calls from a valid state give back what the rules give, and lead to a valid state.
 record Ran (x : Tables) (ks : List Call) (bs : List Back) (e : Detector) : Type 0 where
   answers : bs ≡ backs x ks
   after : tables e ≡ reachBy x ks
@@ -187,7 +187,7 @@ coincide d e d′ e′ ks bs bs′ s f s′ f′ =
     let m = as-ruled d′ e′ ks bs′ s′ f′ in
     (n .answers ∙ sym (m .answers), n .state ∙ sym (m .state))
 
--- as many queues come out of a step as the types hold
+-- As many queues come out of a step as the types can hold.
 queues-out : (d : Detector) (ev : Event) (r : Stepped) (b e : List ℕ) → Typed d → Steps d ev r b e → refusalOf d (length b) ev ≡ 0 → length (r .detector .condvars .«cv_waiters») ≡ 16
 queues-out d ev r b e y s z =
     sym (length-map (r .detector .condvars .«cv_waiters») pairsOf)
@@ -210,7 +210,7 @@ steps-coincide d ev r q b e f h s t = go (refusalOf d (length b) ev) refl
         let y = t .refused (omega (arith, z)) in
         (x .0 ∙ sym (y .0), x .1 ∙ sym (y .1))
 
--- the state that is fed so is a reached one
+-- A state that is fed from the empty one is reached.
 fed-reached : (d₀ d : Detector) (ks : List Call) (bs : List Back) → Starts d₀ → Driven d₀ ks bs d → Reached (tables d)
 fed-reached d₀ d ks bs s f = let n = as-ruled d₀ d ks bs s f in subst Reached (sym (n .state)) (n .reached)
 
@@ -224,6 +224,7 @@ reports-true d₀ d ks bs s f ev r b e t =
       each = rw (q .after) (first-half (tables d) (length b) ev (fed-reached d₀ d ks bs s f));
     }
 
+-- The second half of demand 3 is carried from the rules to what `step` returns.
 carried : (C : Converse) (event : ℕ → ℕ → Outcome → Event) → Attempted C event → Called C event
 carried C event half d₀ d ks bs s f x t l o r b e k z =
     let q = follows d (event t l o) r b e (as-ruled d₀ d ks bs s f .valid) k in

@@ -1,4 +1,4 @@
--- What each event keeps, how often it reports, and that its reports are true.
+-- The reports of every event are true.
 use mathlib.Core.Path.{_≡_, refl, _∙_}
 use mathlib.Core.Logic.{inl, inr}
 use mathlib.Core.List.{List, [], _∷_, foldl}
@@ -31,7 +31,7 @@ use Rattle.demands.proofs.Keeping.{acquired-keeps, write-acquired-keeps
 use Rattle.demands.proofs.Fine.{fine-own, fine-write, fine-rules}
 use Rattle.demands.proofs.Reports.{each-map, each-append, Made, Fair, fair-quiet, fair-settle, fair-block, fair-mutex}
 
--- ---- an accepted event is accepted with room for all reports as well
+-- ---- An accepted event is accepted with room for all reports as well
 
 pub accepted-full : (x : Tables) (room : ℕ) (e : Event) → refusal x room e ≡ 0 → refusal x bufferBytes e ≡ 0
 unfolding refusal
@@ -40,15 +40,17 @@ accepted-full x room e h =
     let i = a .inside in
     inside-next (numbersOf e) bufferBytes (full x e) (record { thread = i .thread; hint = i .hint; lock = i .lock; condvar = i .condvar; room = lit≤ tt }) ∙ a .notFull
 
--- ---- what an event's reports are, with tables x before it and y after it
+-- ---- The reports of an event, with tables x before it and y after it
 
+-- A report that was made in waits that the event passed through is true.
 heard : (x : Tables) (e : Event) (y : Tables) {w : Waits} {r : Report} → Passed x e y (r .state) → Made (y .«rwlock_readers») w r → TrueReport x e y r
 heard x e y p m = record { cycle = m .cycle; passed = p }
 
+-- States that all reports of the event e, whose effect is a, are true.
 abbrev pub AllTrue : Tables → Event → Effect → Type 0
 AllTrue x e a = Each (TrueReport x e (a .tables)) (a .reports)
 
--- one judgement, which is the last thing that the event does
+-- An event whose only judgement is the last thing that it does has true reports.
 true-one : (x : Tables) (e : Event) (y : Tables) (rs : List Report) → Fair (y .«rwlock_readers») (record { waits = y .waits; reports = rs })
     → AllTrue x e (record { tables = y; reports = rs })
 true-one x e y rs f = each-map (Made (y .«rwlock_readers») (y .waits)) (TrueReport x e y) (λ r m. heard x e y (inl (m .here)) m) rs (f .each)
@@ -56,7 +58,7 @@ true-one x e y rs f = each-map (Made (y .«rwlock_readers») (y .waits)) (TrueRe
 true-judging : (x : Tables) (e : Event) (a : Judging) → Fair (x .«rwlock_readers») a → AllTrue x e (withJudging x a)
 true-judging x e a f = true-one x e (withWaits x (a .waits)) (a .reports) f
 
--- ---- the attempts and what completes them
+-- ---- The attempts, and the events that complete them
 
 module _ (x : Tables) (e : Event) (k : Kept x) where
   true-acquire : (t l : ℕ) → t < 32 → l < 64 → AllTrue x e (completeAcquire x t l)
@@ -83,9 +85,9 @@ module _ (x : Tables) (e : Event) (k : Kept x) where
       go true = fair-quiet (x .«rwlock_readers») w f
       go false = fair-block (x .«rwlock_readers») w t (writeOn l) h i f
 
--- ---- condvars
+-- ---- Condvars
 
--- one pair after the other
+-- One pair is treated.
 fair-attempted : (c : List ℕ) (w : Waits) (p : Pair) → p .thread < 32 → p .lock < 64 → Fine w → Fair c (attempted c w p)
 unfolding attempted
 fair-attempted c w p h i f = go (ltb (ownerOf w (p .lock)) 32)
@@ -94,11 +96,12 @@ fair-attempted c w p h i f = go (ltb (ownerOf w (p .lock)) 32)
     go true = fair-mutex c w (p .thread) (p .lock) h i f
     go false = fair-quiet c w f
 
--- the walk over q from s, and what it says of the reports: P holds of those before and of each that is made on the way
+-- States that after a walk over pairs the waits are fine and P holds of all reports so far.
 record Walked (P : Report → Type 0) (s : Woken) : Type 0 where
   fine : Fine (s .waits)
   each : Each P (s .reports)
 
+-- A walk over q keeps this if P holds of each report that is made on the way.
 walked : (c : List ℕ) (P : Report → Type 0) (q : List Pair) (s : Woken) → Seated q → Walked P s
     → ((m : ℕ) (r : Report) → Made c (foldl (wake c) s (take m q) .waits) r → P r) → Walked P (foldl (wake c) s q)
 unfolding wake
@@ -127,7 +130,7 @@ true-first x c k = go (queueOf x c) (k .seated c)
         let a = fair-attempted (x .«rwlock_readers») (x .waits) p (s .0) (s .1) (k .waits) in
         true-one x (CondvarNotifyOne c) (notifyFirst x c (p ∷ q) .tables) _ a
 
--- ---- every event
+-- ---- Every event
 
 true-apply : (x : Tables) (e : Event) (room : ℕ) → Inside (numbersOf e) room → Kept x → AllTrue x e (apply e x)
 unfolding releaseMutex destroyMutex completeRead tryRead releaseRead releaseWrite destroyRwLock createCondvar destroyCondvar beginWait endWait
@@ -160,7 +163,7 @@ true-apply x (CondvarNotifyOne c) n h k = true-first x c k
 true-apply x (CondvarNotifyAll c) n h k = true-all x c k
 true-apply x (CondvarWaitEnd t c l) n h k = tt
 
--- ---- an event, refused or not
+-- ---- An event, refused or not
 
 pub true-effect : (x : Tables) (room : ℕ) (e : Event) → Kept x → AllTrue x e (effect x room e)
 unfolding effect

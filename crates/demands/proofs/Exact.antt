@@ -1,4 +1,5 @@
--- In a state whose edges are the true waits, a blocked attempt is reported exactly where the true waits then hold a cycle.
+-- In a state whose edges are the true waits, a blocked attempt is reported if and only if the true waits after
+-- it have a cycle.
 use mathlib.Core.Path.{_≡_, refl, sym, ap, _∙_, subst}
 use mathlib.Core.Logic.{_⊎_, inl, inr, _↔_}
 use mathlib.Core.List.{List, [], _∷_}
@@ -57,11 +58,11 @@ use Rattle.detector.proofs.Numbers.{accepted}
 use Rattle.detector.proofs.Serving.{effect-served}
 use Rattle.demands.proofs.Invariants.{reached-kept}
 
--- a truly waits for b, in waits w with counts c
+-- States that a truly waits for b, in waits w with reader counts c.
 abbrev True : List ℕ → Waits → Rel
 True c w a b = waitsFor c w a b ≡ true
 
--- ---- the owners look at two tables alone
+-- ---- The owners depend on two tables alone
 
 owners-same : (c : List ℕ) (v w : Waits) (i : WaitIntent) → ownerOf v (i .«lock_id») ≡ ownerOf w (i .«lock_id») → writerOf v (i .«lock_id») ≡ writerOf w (i .«lock_id»)
     → owners c v i ≡ owners c w i
@@ -76,13 +77,13 @@ blocking-same : (c : List ℕ) (v w : Waits) → (v .«mutex_owners» ≡ w .«m
 blocking-same c v w p q Nothing = refl
 blocking-same c v w p q (For i) = owners-same c v w i (ap (λ (l : List ℕ). row l (i .«lock_id»)) p) (ap (λ (l : List ℕ). row l (i .«lock_id»)) q)
 
--- so that waits look at three
+-- So true waits depend on three.
 waits-same : (c : List ℕ) (v w : Waits) → (v .«thread_waits_for» ≡ w .«thread_waits_for») → (v .«mutex_owners» ≡ w .«mutex_owners») → (v .«rwlock_writer» ≡ w .«rwlock_writer»)
     → (a b : ℕ) → waitsFor c v a b ≡ waitsFor c w a b
 unfolding waitsFor
 waits-same c v w s p q a b = ap (λ (z : List Slot). among b (blocking c v (getD z a noSlot .awaits))) s ∙ ap (among b) (blocking-same c v w p q (intentOf w a))
 
--- ---- what setting an intent changes
+-- ---- What setting an intent changes
 
 module _ (v : Waits) (t : ℕ) (i : WaitIntent) where
   set-graph : setIntent v t i .«wait_for_graph» ≡ clearWaitEdges (v .«wait_for_graph») t
@@ -117,8 +118,9 @@ module _ (v : Waits) (t : ℕ) (i : WaitIntent) where
       q Nothing = refl
       q (For j) = refl
 
--- ---- registering where the edges of all others are their true waits
+-- ---- Registering where the edges of all other threads are their true waits
 
+-- States that the edges of all threads but t are their true waits.
 abbrev ExactBut : List ℕ → Waits → ℕ → Type 0
 ExactBut c v t = (a b : ℕ) → (a ≡ t → ⊥) → Edge (v .«wait_for_graph» .edges) a b ↔ True c v a b
 
@@ -172,7 +174,7 @@ module _ (c : List ℕ) (v : Waits) (t : ℕ) (i : WaitIntent) (h : t < 32) (k :
       acyclic-within (True c (register c v t i .waits)) (Fan E t (owners c u i)) (λ a b z. true-fan a b .0 (sym (registered a b) ∙ z))
       (register-none t h (owners c u i) (owners-lt c u i) (u .«wait_for_graph») (uf .graph) e)
 
--- ---- a ring of true waits validates
+-- ---- A ring of true waits is valid
 
 around-of : (c : List ℕ) (w : Waits) (f a : ℕ) (r : List ℕ) → Round (True c w) f a r → around c w f a r ≡ true
 unfolding around
@@ -187,9 +189,9 @@ validate-of : (c : List ℕ) (w : Waits) (p : List ℕ) → Ring (True c w) p �
 unfolding validate
 validate-of c w p i = rw (valid-of c w p i)
 
--- ---- what is reported and what is true
+-- ---- What is reported and what is true
 
--- reported exactly where the true waits hold a cycle
+-- States that there is a report if and only if the true waits have a cycle.
 abbrev Decides : List ℕ → Judging → Type 0
 Decides c a = (0 < length (a .reports)) ↔ Cycle (True c (a .waits))
 
@@ -199,7 +201,7 @@ decides-found c w p i = subst (Decides c) (sym (validate-of c w p i)) (λ r. rin
 decides-none : (c : List ℕ) (w : Waits) → Acyclic (True c w) → Decides c (quiet w)
 decides-none c w h = (λ r. absurd (omega arith), λ z. absurd (no-cycle (True c w) h z))
 
--- ---- the filter
+-- ---- The filter
 
 held-all : (w : Waits) (l : ℕ) (p : List ℕ) → allHold w p l ≡ true → (t : ℕ) → In t p → has (holdsOf w t) l ≡ true
 unfolding allHold
@@ -247,7 +249,8 @@ of-shared c w p e k =
     (in-those (λ l. cond (allHold w p l) (nobodyReads c l) false) 64 (k .lock) (k .inside)
     (ap (λ (b : Bool). cond b (nobodyReads c (k .lock)) false) (all-held w (k .lock) p (k .held)) ∙ zero-nobody c (k .lock) (k .nobodyReads)))
 
--- reported exactly where they hold a cycle and the path found is not of threads with a lock in common
+-- States that there is a report if and only if the true waits have a cycle and the threads of the path found
+-- share no lock that nobody reads.
 abbrev DecidesMutex : List ℕ → Option (List ℕ) → Judging → Type 0
 DecidesMutex c o a = (0 < length (a .reports)) ↔ (Cycle (True c (a .waits)) × ((p : List ℕ) → o ≡ some p → Shared c (a .waits) p → ⊥))
 
@@ -276,7 +279,7 @@ module _ (c : List ℕ) (v : Waits) (t : ℕ) (h : t < 32) (f : Fine v) (x : Exa
       go none e = (λ r. absurd (omega arith), λ z. absurd (no-cycle (True c w) (none-acyclic c v t (mutexOn l) h k f x e) (z .0)))
       go (some p) e = pass p (passes c w p) refl (found-ring c v t (mutexOn l) h k f x p e)
 
-  -- a writer that finds nobody waits for nobody
+  -- A writer that finds neither readers nor a writer waits for nobody.
   decides-write : (l : ℕ) → l < 64 → (free c v l ≡ true → Acyclic (True c v)) → Decides c (blockWrite c v t l)
   unfolding blockWrite
   decides-write l k calm = go (free c v l) refl
@@ -285,7 +288,7 @@ module _ (c : List ℕ) (v : Waits) (t : ℕ) (h : t < 32) (f : Fine v) (x : Exa
       go true e = decides-none c v (calm e)
       go false e = decides-block (writeOn l) k
 
--- ---- exact but for t, also with the hint on record
+-- ---- Exact but for t, also with the hint recorded
 
 exact-all : (x : Tables) → Kept x → Exact x → (a b : ℕ) → Edge (x .waits .«wait_for_graph» .edges) a b ↔ Truly x a b
 unfolding waitsFor among
@@ -310,7 +313,7 @@ exact-all x k h a b = go (decLt a 32)
           λ e. absurd (false≢true (sym (ap (λ (s : Slot). among b (blocking (x .«rwlock_readers») w (s .awaits))) e₂) ∙ e)),
         )
 
--- the waits of all but t on lock l are as they were
+-- If only t awaits the lock l, a change of its owner or writer changes the waits of t alone.
 but-hint : (c : List ℕ) (v w : Waits) (t l : ℕ) → (v .«thread_waits_for» ≡ w .«thread_waits_for»)
     → ((i : WaitIntent) → (i .«lock_id» ≡ l → ⊥) → owners c v i ≡ owners c w i) → ((a : ℕ) → names (intentOf w a) l ≡ true → a ≡ t)
     → (a b : ℕ) → (a ≡ t → ⊥) → waitsFor c v a b ≡ waitsFor c w a b
@@ -325,7 +328,7 @@ module _ (x : Tables) (k : Kept x) (exact : Exact x) (t l : ℕ) where
   exact-plain : ExactBut (x .«rwlock_readers») (x .waits) t
   exact-plain a b d = exact-all x k exact a b
 
-  -- v has the graph of the tables, and the same waits of all but t
+  -- Waits v with the same graph, and with the same true waits of all threads but t, are exact but for t too.
   exact-hint : (v : Waits) → (v .«wait_for_graph» ≡ x .waits .«wait_for_graph»)
       → ((a b : ℕ) → (a ≡ t → ⊥) → waitsFor (x .«rwlock_readers») v a b ≡ waitsFor (x .«rwlock_readers») (x .waits) a b) → ExactBut (x .«rwlock_readers») v t
   exact-hint v g s a b d =
@@ -350,10 +353,10 @@ module _ (x : Tables) (k : Kept x) (exact : Exact x) (t l : ℕ) where
       (but-hint (x .«rwlock_readers») (write (x .waits) o l) (x .waits) t l refl
       (λ i d. owners-same (x .«rwlock_readers») (write (x .waits) o l) (x .waits) i refl (getD-set-other (x .waits .«rwlock_writer») l (i .«lock_id») o 0 d)) n)
 
--- ---- demand 3, second half
+-- ---- Demand 3, second half
 
 module _ (x : Tables) (room t l : ℕ) (k : Kept x) (exact : Exact x) where
-  -- the rule's answer of a mutex attempt in waits v
+  -- In waits v a blocked mutex attempt is reported as the demand asks.
   mutex-decided : (v : Waits) → t < 32 → l < 64 → Fine v → ExactBut (x .«rwlock_readers») v t
       → (0 < length (acquireSlow x v t l .reports))
       ↔ (Cycle (Truly (acquireSlow x v t l .tables)) × ((p : List ℕ) × (register (x .«rwlock_readers») v t (mutexOn l) .found ≡ some p) × Shared (x .«rwlock_readers») (acquireSlow x v t l .tables .waits) p → ⊥))

@@ -1,4 +1,4 @@
--- What the rules of waiting keep.
+-- What the rules of waiting keep of the waits in reached states.
 use mathlib.Core.Path.{_≡_, refl, sym, ap, _∙_}
 use mathlib.Core.Logic.{inl, inr}
 use mathlib.Core.List.{List, [], _∷_, foldl}
@@ -35,9 +35,9 @@ use Rattle.demands.specs.Invariants.{Fine}
 use Rattle.demands.proofs.Keeping.{Rules}
 use Rattle.demands.proofs.Held.{Held, held-graph, held-own, held-write, held-hold, held-unhold, held-emptied, held-unwaited, held-set}
 
--- ---- a change of one table
+-- ---- A change of one table
 
--- no more than that the graph is good, and that waiters have intents, is to be shown beside what any waits keep
+-- Fine waits are held ones. For the converse it is left to show that the graph is good and that waiters have intents.
 module _ {w : Waits} where
   pub held : Fine w → Held w
   held f = record { graph = f .graph .sized; range = f .range; shaped = f .shaped }
@@ -60,13 +60,13 @@ fine-hold w t l h f = fine-of (held-hold w t l h (held f)) (f .graph) (f .named)
 pub fine-unhold : (w : Waits) (t l : ℕ) → Fine w → Fine (unhold w t l)
 fine-unhold w t l f = fine-of (held-unhold w t l (held f)) (f .graph) (f .named)
 
--- the waiters of l go
+-- The waiters of a lock go.
 pub fine-emptied : (w : Waits) (l : ℕ) → l < 64 → Fine w → Fine (withIntents w (w .«thread_waits_for») (set (w .«lock_waiters») l 0))
 fine-emptied w l h f =
     fine-of (held-emptied w l (held f)) (f .graph)
     (λ k t b. f .named k t (bit-has _ _ (emptied-row (w .«lock_waiters») l (rw (f .shaped .locks) h) k t .0 (has-bit _ _ b) .1)))
 
--- ---- clear
+-- ---- Clear
 
 module _ (w : Waits) (t : ℕ) (i : WaitIntent) (e : intentOf w t ≡ For i) (f : Fine w) where
   unwaited-named : (l u : ℕ) → bit (row (cut (w .«lock_waiters») (i .«lock_id») t) l) u ≡ 1 → names (getD (set (w .«thread_waits_for») t noSlot) u noSlot .awaits) l ≡ true
@@ -99,6 +99,7 @@ fine-clear w t h f =
     let u = fine-unwaited w t (intentOf w t) refl f in
     fine-graph (unwaited w t (intentOf w t)) _ (good-clear (unwaited w t (intentOf w t) .«wait_for_graph») t h (u .graph)) u
 
+-- A thread that is cleared has no intent.
 pub cleared-none : (w : Waits) (t : ℕ) → t < 32 → Fine w → intentOf (clear w t) t ≡ Nothing
 unfolding clear
 cleared-none w t h f = go (intentOf w t) refl
@@ -107,17 +108,17 @@ cleared-none w t h f = go (intentOf w t) refl
     go Nothing e = e
     go (For i) e = ap (λ (s : Slot). s .awaits) (getD-set-same (w .«thread_waits_for») t noSlot noSlot (rw (f .shaped .threads) h))
 
--- ---- register
+-- ---- Register
 
 pub fine-set : (w : Waits) (t : ℕ) (i : WaitIntent) → t < 32 → i .«lock_id» < 64 → Fine w → Fine (setIntent w t i)
 unfolding setIntent
-fine-set w t i h k f = fine-of (held-set w t i h k (held f)) (c .graph) (λ l v b. told l v (has-bit _ _ b))
+fine-set w t i h k f = fine-of (held-set w t i h k (held f)) (c .graph) (λ l v b. named-after l v (has-bit _ _ b))
   where
     c : Fine (clear w t)
     c = fine-clear w t h f
 
-    told : (l v : ℕ) → bit (row (put (clear w t .«lock_waiters») (i .«lock_id») t) l) v ≡ 1 → names (getD (set (clear w t .«thread_waits_for») t (record { awaits = For i })) v noSlot .awaits) l ≡ true
-    told l v b = go (ℕ-discrete v t) (ℕ-discrete l (i .«lock_id»))
+    named-after : (l v : ℕ) → bit (row (put (clear w t .«lock_waiters») (i .«lock_id») t) l) v ≡ 1 → names (getD (set (clear w t .«thread_waits_for») t (record { awaits = For i })) v noSlot .awaits) l ≡ true
+    named-after l v b = go (ℕ-discrete v t) (ℕ-discrete l (i .«lock_id»))
       where
         a : At (clear w t .«lock_waiters») (put (clear w t .«lock_waiters») (i .«lock_id») t) (i .«lock_id») t 1
         a = at-put (clear w t .«lock_waiters») (i .«lock_id») t (rw (c .shaped .locks) k)
@@ -132,7 +133,7 @@ fine-set w t i h k f = fine-of (held-set w t i h k (held f)) (c .graph) (λ l v 
             absurd (false≢true (sym (ap (λ x. names x l) (cleared-none w t h f)) ∙ ap (λ x. names (intentOf (clear w t) x) l) (sym p) ∙ before (λ z. q (z .0))))
         go (no p) q = rw (getD-set-other (clear w t .«thread_waits_for») t v (record { awaits = For i }) noSlot p) (before (λ z. p (z .1)))
 
--- a path that is found has no thread twice
+-- States that no thread stands twice in a path that was found.
 abbrev pub Neat : Option (List ℕ) → Type 0
 Neat none = Unit
 Neat (some p) = Distinct p
@@ -141,11 +142,12 @@ neat-first : (p q : Option (List ℕ)) → Neat p → Neat q → Neat (first p q
 neat-first none q h j = j
 neat-first (some p) q h j = h
 
--- what a rule hands on
+-- States what a rule hands on: fine waits, and a path in which no thread stands twice.
 pub record Stepped (s : Linking) : Type 0 where
   pub fine : Fine (s .waits)
   pub neat : Neat (s .found)
 
+-- States the same of a graph to which edges are added.
 record Grows (k : Adding) : Type 0 where
   good : Good (k .graph)
   neat : Neat (k .found)
@@ -164,7 +166,7 @@ stepped-register c w t i h k f =
     let r = grows-owners t (owners c (setIntent w t i) i) (setIntent w t i .«wait_for_graph») h (owners-lt c (setIntent w t i) i) (u .graph) in
     record { fine = fine-graph (setIntent w t i) _ (r .good) u; neat = r .neat }
 
--- ---- refresh
+-- ---- Refresh
 
 grows-renew : (c : List ℕ) (w : Waits) (k : Adding) (t : ℕ) → t < 32 → Grows k → Grows (renew c w k t)
 unfolding renew
@@ -197,7 +199,7 @@ pub stepped-locks : (c : List ℕ) (w : Waits) (ls : List ℕ) → Fine w → St
 unfolding refreshLocks
 stepped-locks c w ls f = stepped-next c ls (record { waits = w; found = none }) (record { fine = f; neat = tt })
 
--- ---- the empty tables
+-- ---- The empty tables
 
 pub blank : (n i : ℕ) → getD {A = ℕ} (replicate n 0) i 0 ≡ 0
 blank zero i = refl
@@ -213,7 +215,7 @@ fine-empty =
       shaped = record { threads = refl; locks = refl; few = λ l. rw (blank 64 l) (lit< tt); holders = refl; held = λ t. rw (blank 32 t) (lit< tt); owned = refl; written = refl };
     }
 
--- ---- every rule of waiting keeps it
+-- ---- Every rule of waiting keeps it
 
 fine-loosen : (w : Waits) (t l : ℕ) → t < 32 → Fine w → Fine (loosen w t l)
 unfolding loosen

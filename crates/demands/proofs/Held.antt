@@ -1,4 +1,4 @@
--- What the rules of waiting keep of any waits that the types hold and that are in range, reached or not.
+-- What the rules of waiting keep of any waits that the types can hold and that are in range, reached or not.
 use mathlib.Core.Path.{_≡_, refl}
 use mathlib.Core.Logic.{inl, inr}
 use mathlib.Core.List.{List, [], _∷_, foldl}
@@ -30,12 +30,13 @@ use Rattle.detector.specs.RwLock.{loosen}
 use Rattle.demands.specs.Invariants.{Shaped}
 use Rattle.demands.proofs.Keeping.{Rules}
 
+-- States that the waits have the sizes and the ranges that the rules of waiting keep.
 pub record Held (w : Waits) : Type 0 where
   pub graph : Sized (w .«wait_for_graph»)
   pub range : InRange w
   pub shaped : Shaped (w .«thread_waits_for») (w .«lock_waiters») (w .«thread_holds») (w .«mutex_owners») (w .«rwlock_writer»)
 
--- ---- a change of one table
+-- ---- A change of one table
 
 pub held-graph : (w : Waits) (g : WaitForGraph) → Sized g → Held w → Held (withGraph w g)
 held-graph w g k f = record { graph = k; range = range-graph w g (f .range); shaped = f .shaped }
@@ -81,7 +82,7 @@ held-hold w t l h f = held-holds w t _ (with-lt 64 _ l (f .shaped .held t) h) f
 pub held-unhold : (w : Waits) (t l : ℕ) → Held w → Held (unhold w t l)
 held-unhold w t l f = held-holds w t _ (omega (arith, without-le (holdsOf w t) l, f .shaped .held t)) f
 
--- intents s and waiters v in place of those of w
+-- The intents s and the waiters v take the place of those of w.
 pub held-intents : (w : Waits) (s : List Slot) (v : List ℕ) → InRange (withIntents w s v) → length s ≡ 32 → length v ≡ 64 → ((l : ℕ) → row v l < 2 ^ 32) → Held w → Held (withIntents w s v)
 held-intents w s v r a b c f =
     record {
@@ -90,12 +91,13 @@ held-intents w s v r a b c f =
       shaped = record { threads = a; locks = b; few = c; holders = f .shaped .holders; held = f .shaped .held; owned = f .shaped .owned; written = f .shaped .written };
     }
 
+-- The waiters of a lock go.
 pub held-emptied : (w : Waits) (l : ℕ) → Held w → Held (withIntents w (w .«thread_waits_for») (set (w .«lock_waiters») l 0))
 held-emptied w l f =
     held-intents w _ _ (record { locks = f .range .locks; owner = f .range .owner; writer = f .range .writer }) (f .shaped .threads) (simp length-set (f .shaped .locks))
     (set-all (λ (m : ℕ). m < 2 ^ 32) (w .«lock_waiters») l 0 0 (lit< tt) (f .shaped .few)) f
 
--- ---- clear, register, refresh
+-- ---- Clear, register, refresh
 
 pub held-unwaited : (w : Waits) (t : ℕ) (a : Awaits) → Held w → Held (unwaited w t a)
 held-unwaited w t Nothing f = f
@@ -138,7 +140,7 @@ pub held-refresh : (c : List ℕ) (w : Waits) (l : ℕ) → Held w → Held (ref
 unfolding refresh renewAll
 held-refresh c w l f = held-graph w _ (sized-all c w (upward 32 (waitersOf w l)) (renewStart w) (upward-lt 32 (waitersOf w l)) (f .graph)) f
 
--- ---- dropping edges
+-- ---- Dropping edges
 
 sized-remove : (t : ℕ) (ws : List ℕ) (g : WaitForGraph) → Sized g → Sized (foldl (λ h w. removeEdge h w t) g ws)
 unfolding removeEdge
@@ -162,7 +164,7 @@ pub held-loosen : (w : Waits) (t l : ℕ) → Held w → Held (loosen w t l)
 unfolding loosen removeEdgesTo
 held-loosen w t l f = held-graph w _ (sized-remove t (upward 32 (waitersOf w l)) (w .«wait_for_graph») (f .graph)) f
 
--- ---- every rule of waiting keeps it
+-- ---- Every rule of waiting keeps it
 
 pub held-rules : Rules Held
 held-rules =

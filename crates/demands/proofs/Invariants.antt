@@ -18,6 +18,7 @@ use Rattle.demands.proofs.Fine.{fine-empty, blank, fine-rules}
 use Rattle.detector.proofs.Brief.{all-brief}
 use Rattle.demands.proofs.Events.{true-effect}
 
+-- The empty tables keep it.
 pub kept-empty : Kept empty
 kept-empty =
     record {
@@ -41,6 +42,7 @@ kept-empty =
     sleep (suc n) zero = record { condvar = lit≤ tt; lock = lit< tt; absent = λ e. refl }
     sleep (suc n) (suc t) = sleep n t
 
+-- Events keep it, one after the other.
 kept-reach : (es : List Event) (x : Tables) → Kept x → Kept (reach x es)
 unfolding reach
 kept-reach [] x k = k

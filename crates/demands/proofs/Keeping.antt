@@ -1,4 +1,4 @@
--- What every event keeps: whatever the rules of waiting keep of the waits, and the ranges of the other tables.
+-- Every event keeps whatever the rules of waiting keep of the waits, and the ranges of the other tables.
 use mathlib.Core.Path.{_≡_, refl}
 use mathlib.Core.List.{List, [], _∷_, _++_, foldl}
 use mathlib.Core.Bool.{Bool, true, false, cond}
@@ -38,7 +38,7 @@ use Rattle.detector.proofs.Queues.{cv-wait-none, cv-wait-some}
 use Rattle.detector.specs.Effects.{effect}
 use Rattle.demands.specs.Invariants.{Counts, Seated, KeptWith}
 
--- each rule of waiting keeps P
+-- States that each rule of waiting keeps P.
 pub record Rules (P : Waits → Type 0) : Type 0 where
   pub owned : (w : Waits) (l o : ℕ) → o ≤ 32 → P w → P (own w o l)
   pub wrote : (w : Waits) (l o : ℕ) → o ≤ 32 → P w → P (write w o l)
@@ -50,8 +50,9 @@ pub record Rules (P : Waits → Type 0) : Type 0 where
   pub loosened : (w : Waits) (t l : ℕ) → t < 32 → P w → P (loosen w t l)
   pub emptied : (w : Waits) (l : ℕ) → l < 64 → P w → P (withIntents w (w .«thread_waits_for») (set (w .«lock_waiters») l 0))
 
--- ---- the other tables
+-- ---- The other tables
 
+-- States that there is a cv wait in range, or none, for each of the 32 threads.
 record CvWaits (v : List CvWait) : Type 0 where
   size : length v ≡ 32
   all : (t : ℕ) → ValidCvWait (getD v t blankCvWait)
@@ -108,7 +109,7 @@ seated-leave t l (p ∷ q) s = go (isPair t l p) (seated-leave t l q (s .2))
     go true h = h
     go false h = (s .0, s .1, h)
 
--- ---- the waits
+-- ---- The waits
 
 module _ {P : Waits → Type 0} (rules : Rules P) where
   if-keeps : (b : Bool) (v w : Waits) → P v → P w → P (cond b v w)
@@ -140,7 +141,7 @@ module _ {P : Waits → Type 0} (rules : Rules P) where
   unfolding purge unholdAll
   purge-keeps w l h f = rules .emptied _ l h (each-keeps P (λ v t. unhold v t l) 32 w (λ v t i u. rules .unholding v t l u) f)
 
-  -- ---- a judgement
+  -- ---- A judgement
 
   locks-keeps : (c : List ℕ) (ls : List ℕ) (s : Linking) → P (s .waits) → P (foldl (refreshNext c) s ls .waits)
   unfolding refreshNext
@@ -213,7 +214,7 @@ module _ {P : Waits → Type 0} (rules : Rules P) where
       go true = mutex-keeps c w (p .thread) (p .lock) h k f
       go false = f
 
-  -- ---- one table of all
+  -- ---- One table of all
 
   put-waits : (x : Tables) (w : Waits) → P w → KeptWith P x → KeptWith P (withWaits x w)
   put-waits x w f k =
@@ -243,7 +244,7 @@ module _ {P : Waits → Type 0} (rules : Rules P) where
   cvWaitsOf : (x : Tables) → KeptWith P x → CvWaits (x .«thread_wait_cv»)
   cvWaitsOf x k = record { size = k .cvPlaces; all = k .cvWaits }
 
-  -- ---- the events, by their rules
+  -- ---- The events, by their rules
 
   module _ (x : Tables) (k : KeptWith P x) where
     kept-acquire : (t l : ℕ) → t < 32 → l < 64 → KeptWith P (completeAcquire x t l .tables)
@@ -320,7 +321,7 @@ module _ {P : Waits → Type 0} (rules : Rules P) where
         put-woken _ _ _ (rules .cleared (x .waits) t h (k .waits)) (omega (arith, without-le (x .«cv_woken») t, k .woken))
         (put-queue x c _ _ (omega (arith, leave-less t l (queueOf x c), k .queues c)) (seated-leave t l (queueOf x c) (k .seated c)) (cv-waits-set _ t noCvWait cv-wait-none (cvWaitsOf x k)) k)
 
-    -- one pair after the other
+    -- Pairs are woken one after the other.
     woken-keeps : (q : List Pair) (s : Woken) → Seated q → P (s .waits) × (s .woken < 2 ^ 32)
         → P (foldl (wake (x .«rwlock_readers»)) s q .waits) × (foldl (wake (x .«rwlock_readers»)) s q .woken < 2 ^ 32)
     unfolding wake
@@ -373,7 +374,7 @@ module _ {P : Waits → Type 0} (rules : Rules P) where
     kept-apply (CondvarNotifyAll c) n h f = kept-all c
     kept-apply (CondvarWaitEnd t c l) n h f = kept-end t c l (h .thread)
 
-    -- THEOREM: an accepted event keeps them, and so does one that is refused
+    -- THEOREM: an event that is served keeps them, and so does any event, refused or not.
     pub served-keeps : (room : ℕ) (e : Event) → refusal x room e ≡ 0 → KeptWith P (apply e x .tables)
     served-keeps room e h = let a = accepted x room e h in kept-apply e room (a .inside) (a .notFull)
 

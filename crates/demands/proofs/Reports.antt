@@ -1,4 +1,4 @@
--- What is reported is true, and what the judgements keep.
+-- Reports are true, and the judgements keep the waits fine.
 use mathlib.Core.Path.{_≡_, refl, sym, ap}
 use mathlib.Core.List.{List, [], _∷_, _++_, map}
 use mathlib.Core.Bool.{Bool, true, false, cond, false≢true}
@@ -22,7 +22,7 @@ use Rattle.demands.specs.Invariants.{Fine}
 use Rattle.demands.specs.Demand3.{Blocks, TrueCycle, Each}
 use Rattle.demands.proofs.Fine.{Neat, Stepped, stepped-register, stepped-refresh, stepped-locks}
 
--- ---- lists of reports
+-- ---- Lists of reports
 
 pub each-map : (P Q : Report → Type 0) → ((r : Report) → P r → Q r) → (rs : List Report) → Each P rs → Each Q rs
 each-map P Q h [] k = tt
@@ -32,7 +32,7 @@ pub each-append : (P : Report → Type 0) (a b : List Report) → Each P a → E
 each-append P [] b h k = k
 each-append P (r ∷ a) b h k = (h .0, each-append P a b (h .1) k)
 
--- ---- what passes the validation is a true cycle
+-- ---- What passes the validation is a true cycle
 
 pub waits-blocks : (c : List ℕ) (w : Waits) (a b : ℕ) → waitsFor c w a b ≡ true → Blocks c w (entryOf w a) b
 unfolding waitsFor
@@ -42,7 +42,7 @@ waits-blocks c w a b e = go (intentOf w a) refl (among-in b _ e)
     go Nothing q m = absurd m
     go (For i) q m = record { intent = i; awaits = q; beside = sym (ap lockOf q); owns = m }
 
--- an entry waits for the thread of the next
+-- States that an entry's wait is blocked by the thread of the next entry.
 abbrev Next : List ℕ → Waits → Entry → Entry → Type 0
 Next c w p q = Blocks c w p (q .thread)
 
@@ -63,13 +63,14 @@ threads-of w (t ∷ p) = ap (λ (l : List ℕ). t ∷ l) (threads-of w p)
 valid-true : (c : List ℕ) (w : Waits) (p : List ℕ) → Distinct p → valid c w p ≡ true → TrueCycle c w (map (entryOf w) p)
 valid-true c w p d e = record { once = rw (threads-of w p) d; closed = valid-closed c w p e }
 
--- ---- a judgement
+-- ---- Judgements
 
--- a report made in tables w: true there
+-- States that the report r was made in waits w and is true there.
 pub record Made (c : List ℕ) (w : Waits) (r : Report) : Type 0 where
   pub cycle : TrueCycle c (r .state) (entriesOf r)
   pub here : r .state ≡ w
 
+-- States that after the judgement a the waits are fine, and that its reports were made in them.
 pub record Fair (c : List ℕ) (a : Judging) : Type 0 where
   pub fine : Fine (a .waits)
   pub each : Each (Made c (a .waits)) (a .reports)
@@ -80,6 +81,7 @@ fair-quiet c w f = record { fine = f; each = tt }
 fair-reporting : (c : List ℕ) (w : Waits) (p : List ℕ) → Fine w → Distinct p → valid c w p ≡ true → Fair c (reporting w p)
 fair-reporting c w p f d e = record { fine = f; each = (record { cycle = valid-true c w p d e; here = refl }, tt) }
 
+-- Checking a path once more is fair, and so is validating one.
 fair-checked : (c : List ℕ) (w : Waits) (o : Option (List ℕ)) → Fine w → Neat o → Fair c (checked c w o)
 unfolding checked
 fair-checked c w none f n = fair-quiet c w f
@@ -103,6 +105,7 @@ fair-validate c w p f n = go (valid c w p) refl
     go true e = fair-reporting c w p f n e
     go false e = fair-checked c (s .waits) (s .found) (r .fine) (r .neat)
 
+-- Judging a path without the filter is fair, and so is judging it with the filter.
 fair-judge : (c : List ℕ) (s : Linking) → Stepped s → Fair c (judge c s)
 fair-judge c s r = go (s .found) (r .neat)
   where
@@ -121,6 +124,7 @@ fair-sieve c s r = go (s .found) (r .neat)
     go none n = fair-quiet c (s .waits) (r .fine)
     go (some p) n = pass p (passes c (s .waits) p) n
 
+-- The judgements of a lock acquired, of a blocked attempt, and of a blocked mutex attempt are fair.
 pub fair-settle : (c : List ℕ) (w : Waits) (l : ℕ) → Fine w → Fair c (settle c w l)
 unfolding settle
 fair-settle c w l f = fair-judge c (refresh c w l) (stepped-refresh c w l f)

@@ -22,7 +22,7 @@ use Rattle.sets.specs.Sets.{bit, with, without, upwardFrom}
 use Rattle.sets.specs.Lists.{among}
 use Rattle.sets.specs.Below.{each, those}
 
--- every definition that a run opens, named once
+-- Returns what `ruled` does, and names every definition that a run opens, once for both theorems.
 opened : List Session → List (List Seen)
 unfolding ruled run seen edgesIn intentsIn effect refusal outside stuckCount trueWaits anyBack acquired completeAcquire acquireSlow released releaseMutex clearNaming unholdAll purge destroyMutex countUp countDown completeRead acquireRead tryRead loosen releaseRead writeReleased releaseWrite writeAcquired completeWrite blockWrite acquireWrite noReaders destroyRwLock createCondvar forget destroyCondvar beginWait attempted wake wakeAll notifyOne notifyAll leave endWait clear setIntent register renew renewAll refresh refreshNext refreshLocks readers waitsFor allHold commonLocks around valid someAwaits awaitedLocks checked validate settle block blockMutex entriesText bytesOf written cutAll stored closing addEdge addNext addOwners removeEdge removeEdgesTo clearWaitEdges visit expand wayBack search findPath bit with without upwardFrom among each those
 opened ss = ruled ss

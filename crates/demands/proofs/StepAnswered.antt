@@ -1,4 +1,5 @@
--- Every call has a result: a refusal's is the state that came in, a served event's is built from its rule's tables.
+-- Every call has a result. That of a refusal is the state that came in, and that of a served event is built
+-- from the tables that its rule gives.
 use mathlib.Core.Path.{_≡_, refl, sym, ap, _∙_, subst}
 use mathlib.Core.List.{List, [], _∷_, _++_, map}
 use mathlib.Core.Bool.{Bool, true, false}
@@ -32,8 +33,9 @@ use Rattle.demands.proofs.Held.{Held, held-rules}
 use Rattle.demands.proofs.Fine.{held}
 use Rattle.demands.proofs.Invariants.{kept-empty}
 
--- ---- a queue in its places, zeros behind
+-- ---- A queue in its cells, with zeros after it
 
+-- Returns the queue of the code that holds these pairs.
 abbrev placed : List Pair → Queue
 placed q = record { pairs = q ++ replicate (32 - length q) noPair; len = length q }
 
@@ -50,10 +52,10 @@ seat-at P z h [] n k s = subst P (sym (pairs-none n k)) z
 seat-at P z h (p ∷ q) n zero s = h p (s .0) (s .1)
 seat-at P z h (p ∷ q) n (suc k) s = seat-at P z h q n k (s .2)
 
-behind-at : (q : List Pair) (n k : ℕ) → length q ≤ k → getD (q ++ replicate n noPair) k noPair ≡ noPair
-behind-at [] n k h = pairs-none n k
-behind-at (p ∷ q) n zero h = absurd (omega arith)
-behind-at (p ∷ q) n (suc k) h = behind-at q n k (omega arith)
+unused-at : (q : List Pair) (n k : ℕ) → length q ≤ k → getD (q ++ replicate n noPair) k noPair ≡ noPair
+unused-at [] n k h = pairs-none n k
+unused-at (p ∷ q) n zero h = absurd (omega arith)
+unused-at (p ∷ q) n (suc k) h = unused-at q n k (omega arith)
 
 queued-placed : (q : List Pair) → length q ≤ 32 → Seated q → Queued (placed q)
 queued-placed q n s =
@@ -62,11 +64,12 @@ queued-placed q n s =
       cells = length-append q (replicate (32 - length q) noPair) ∙ ap (λ (m : ℕ). length q + m) (zeros-length (32 - length q)) ∙ omega arith;
       threads = λ k. seat-at (λ p. p .thread < 32) (lit< tt) (λ p t l. t) q (32 - length q) k s;
       locks = λ k. seat-at (λ p. p .lock < 64) (lit< tt) (λ p t l. l) q (32 - length q) k s;
-      behind = behind-at q (32 - length q);
+      unused = unused-at q (32 - length q);
     }
 
--- ---- the state that means given tables
+-- ---- The state that means given tables
 
+-- Returns the state of the code that means the tables x.
 abbrev stateOf : Tables → Detector
 stateOf x =
     record {
@@ -96,7 +99,7 @@ valid-state x k =
       cvWaits = k .cvWaits;
     }
 
--- ---- what the types hold, and what a valid state keeps beside
+-- ---- What the types can hold, and what a valid state keeps beside it
 
 typed-state : (d : Detector) → Valid d → KeptWith Held (tables d) → Typed d
 typed-state d v k =
@@ -165,7 +168,7 @@ kept-state d y v =
         let e : getD (d .condvars .«cv_waiters») c blankQueue ≡ blankQueue = List·getD-eq-default (d .condvars .«cv_waiters») blankQueue (omega (arith, y .queues)) in
         (rw (queue-at d c, e) (lit≤ tt), rw (queue-at d c, e) tt)
 
--- the empty state is held
+-- The types can hold the empty state.
 pub starts-typed : (d : Detector) → Starts d → Typed d
 starts-typed d s = typed-state d (s .valid) (subst (KeptWith Held) (sym (s .blank)) blank)
   where
@@ -179,7 +182,7 @@ starts-typed d s = typed-state d (s .valid) (subst (KeptWith Held) (sym (s .blan
 shaped : (d : Detector) → Typed d → Shaped d
 shaped d y = record { intents = y .slots; owners = y .owners .long; writers = y .writers .long; cvWaits = y .cvPlaces; cells = λ c h. y .places c h .long }
 
--- a served event's tables are again held
+-- The tables after a served event are held again.
 pub served-held : (d : Detector) (ev : Event) (n : ℕ) → Typed d → refusalOf d n ev ≡ 0 → KeptWith Held (apply ev (tables d) .tables)
 served-held d ev n y z = go (validTest d) refl
   where
@@ -187,7 +190,7 @@ served-held d ev n y z = go (validTest d) refl
     go true q = served-keeps held-rules (tables d) (kept-state d y (tested-valid d (shaped d y) q)) n ev (tested d n ev q ∙ z)
     go false q = absurd (omega (arith, untested d n ev q, z))
 
--- a result with refusal number n
+-- States that there is a result with the refusal n, or 0 for none, in a state that the types can hold.
 abbrev Result : ℕ → Detector → Event → List ℕ → Type 0
 Result n d ev b = (r : Stepped) × (e : List ℕ) × Replies n d ev r b e × Typed (r .detector)
 

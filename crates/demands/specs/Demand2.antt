@@ -1,6 +1,6 @@
--- DEMAND 2. Within those numbers each event's answer and all tables after it equal the Rust's, with its hash maps replaced
--- by ordered ones, in runs side by side, and are proved equal to the rules of document 01.
--- The proof's part: whatever is fed from the empty state, all that comes back is what the rules say.
+-- DEMAND 2. For an event within these limits, the reply, the reports and every table after it are the same as in
+-- the Rust with ordered maps for its hash maps, which is shown by running both side by side (oracle/). They are
+-- also proved to be what the rules give (docs/RULES.md): that is stated here, for all calls from the empty state.
 use mathlib.Core.Path.{_≡_}
 use mathlib.Core.List.{List, [], _∷_}
 use Prim.Native.Nat.{ℕ}
@@ -18,7 +18,8 @@ use Rattle.demands.specs.Reached.{Reached}
 use Rattle.demands.specs.Driven.{Call, Back, Driven, Starts}
 use Rattle.detector.specs.Typed.{Typed}
 
--- THE RULES' RUN over the same calls: the reply, and every byte of the buffer
+-- THE RULES' RUN over the same calls. Returns what a call gives back in tables x: the reply, and every byte of
+-- the buffer.
 abbrev pub backOf : Tables → Call → Back
 backOf x k =
     record {
@@ -26,23 +27,27 @@ backOf x k =
       buffer = laid (k .lent) 0 (written (effect x (length (k .lent)) (k .event) .reports));
     }
 
+-- Returns the tables after a call.
 abbrev pub onward : Tables → Call → Tables
 onward x k = effect x (length (k .lent)) (k .event) .tables
 
+-- Returns what the calls give back, one after the other.
 unfoldable pub backs : Tables → List Call → List Back
 backs x [] = []
 backs x (k ∷ ks) = backOf x k ∷ backs (onward x k) ks
 
+-- Returns the tables after the calls.
 unfoldable pub reachBy : Tables → List Call → Tables
 reachBy x [] = x
 reachBy x (k ∷ ks) = reachBy (onward x k) ks
 
--- none of the replies is refusal 2
+-- States that none of the replies is refusal 2.
 abbrev pub NoTwo : List Back → Type 0
 NoTwo [] = Unit
 NoTwo (b ∷ bs) = (refusedBy (b .reply) ≡ 2 → ⊥) × NoTwo bs
 
--- THE THEOREM (`as-ruled`)
+-- THE THEOREM (`as-ruled`). States that bs and the state e are what the rules give for the calls ks, that e is
+-- valid, and that its tables are reached.
 pub record AsRuled (ks : List Call) (bs : List Back) (e : Detector) : Type 0 where
   pub answers : bs ≡ backs empty ks
   pub state : tables e ≡ reachBy empty ks
@@ -50,17 +55,19 @@ pub record AsRuled (ks : List Call) (bs : List Back) (e : Detector) : Type 0 whe
   pub reached : Reached (reachBy empty ks)
   pub noTwo : NoTwo bs
 
+-- States this of all calls from the empty state.
 abbrev pub FedAsRuled : Type 0
 FedAsRuled = (d e : Detector) (ks : List Call) (bs : List Back) → Starts d → Driven d ks bs e → AsRuled ks bs e
 
--- so the promise leaves no choice (`coincide`): what is fed the same gives back the same and means the same
+-- So the promise leaves no choice (`coincide`): the same calls give back the same and lead to states that mean
+-- the same.
 abbrev pub Coincide : Type 0
 Coincide =
     (d e d′ e′ : Detector) (ks : List Call) (bs bs′ : List Back) → Starts d → Driven d ks bs e → Starts d′ → Driven d′ ks bs′ e′
     → (bs ≡ bs′) × (tables e ≡ tables e′)
 
--- nor does it in one call (`steps-coincide`), from any state that the types hold and with any event and buffer: two results
--- are one. A 17th queue, which the type has not, could hold anything behind its end.
+-- The promise leaves no choice in a single call either (`steps-coincide`): from any state that the types can hold,
+-- with any event and buffer, two results are the same. Without `Typed` a 17th queue could hold anything after its end.
 abbrev pub StepsCoincide : Type 0
 StepsCoincide =
     (d : Detector) (ev : Event) (r q : Stepped) (b e f : List ℕ) → Typed d → Steps d ev r b e → Steps d ev q b f → (r ≡ q) × (e ≡ f)

@@ -1,5 +1,6 @@
--- DEMAND 3. From an empty state, after any events, a cycle is true when reported: no thread stands in it twice, and each
--- thread awaits the lock beside its name, which the next one (after the last, the first) owns so as to block that wait.
+-- DEMAND 3, first half. Whatever events come after the empty state, each cycle is true when it is reported: its
+-- threads are all different, and each awaits the lock that stands with it in the report, of which the next
+-- thread, or for the last thread the first, is an owner that blocks this wait.
 use mathlib.Core.Path.{_≡_}
 use mathlib.Core.Logic.{_⊎_, _↔_}
 use mathlib.Core.List.{List, [], _∷_, map}
@@ -39,120 +40,136 @@ use Rattle.detector.specs.Effects.{effect}
 use Rattle.demands.specs.Reached.{Reached}
 use Rattle.demands.specs.Driven.{Call, Back, Driven, Starts}
 
--- A TRUE CYCLE in waits w with reader counts c
--- p's thread awaits the lock beside its name and o owns it so as to block that wait. Read so: it has an intent that names
--- the lock, and o is among the owners that block that intent (mutex owner, writer, readers), not "o holds the lock".
+-- A TRUE CYCLE in waits w with reader counts. States that the thread of the entry p has an intent that names
+-- its lock, and that o is among the owners that block this intent (mutex owner, writer, readers). Owning is not
+-- holding: what `thread_holds` has does not count.
 pub record Blocks (counts : List ℕ) (w : Waits) (p : Entry) (o : ℕ) : Type 0 where
   pub intent : WaitIntent
   pub awaits : intentOf w (p .thread) ≡ For intent
   pub beside : intent .«lock_id» ≡ p .lock
   pub owns : In o (owners counts w intent)
 
+-- States that the entries ps are a true cycle.
 pub record TrueCycle (counts : List ℕ) (w : Waits) (ps : List Entry) : Type 0 where
   pub once : Distinct (map (λ p. p .thread) ps)
   pub closed : Ring (λ p q. Blocks counts w p (q .thread)) ps
 
--- THE STATE IN WHICH IT IS TRUE: that of its last validation, which is the state after the event; for ca, the state after
--- some of the pairs are treated
+-- THE STATE IN WHICH A CYCLE IS TRUE is that of its last validation. Returns the waits after ca on the condvar
+-- c has treated the first n pairs of the queue.
 abbrev pub treated : Tables → ℕ → ℕ → Waits
 treated x c n = wakeAll (x .«rwlock_readers») (record { waits = x .waits; woken = x .«cv_woken»; reports = [] }) (take n (queueOf x c)) .waits
 
+-- States that w are the waits after the event e, or, for ca, those after some of the pairs were treated.
 abbrev pub Passed : Tables → Event → Tables → Waits → Type 0
 Passed x e y w = (w ≡ y .waits) ⊎ ((c : ℕ) × (n : ℕ) × (e ≡ CondvarNotifyAll c) × (w ≡ treated x c n))
 
--- what a report r of event e is, with tables x before the event and y after it. Its bytes are those of the same entries:
--- `bytesOf` (waits/specs/Report.antt)
+-- States that the report r of the event e is true, with tables x before the event and y after it. Its bytes are
+-- those of the same entries: `bytesOf` (crate `waits`, specs/Report.antt).
 pub record TrueReport (x : Tables) (e : Event) (y : Tables) (r : Report) : Type 0 where
   pub cycle : TrueCycle (y .«rwlock_readers») (r .state) (entriesOf r)
   pub passed : Passed x e y (r .state)
 
--- all of a list
+-- States that P holds of all reports in the list.
 abbrev pub Each : (Report → Type 0) → List Report → Type 0
 Each P [] = Unit
 Each P (r ∷ rs) = P r × Each P rs
 
--- THE FIRST HALF (`first-half`), for every event and every buffer's length
+-- THE FIRST HALF (`first-half`) states that all reports are true, for every event and every length of the
+-- report buffer.
 abbrev pub FirstHalf : Type 0
 FirstHalf = (x : Tables) (room : ℕ) (e : Event) → Reached x → Each (TrueReport x e (effect x room e .tables)) (effect x room e .reports)
 
--- Conversely, take a state so reached whose edges are exactly the true waits, and a blocked attempt whose hint is absent,
--- names the recorded owner, or concerns a lock nobody else awaits. It is reported exactly when the true waits then hold a
--- cycle, save a mutex attempt where all threads of the cycle that document 01 finds hold one lock that nobody reads.
+-- ---- DEMAND 3, second half
+-- Let a reached state have its true waits as edges and no others, and let an attempt be blocked with no hint,
+-- with the recorded owner as its hint, or with any hint on a lock that no other thread awaits. It is reported
+-- if and only if the true waits after it have a cycle.
 
--- the edges are exactly the true waits
+-- One case is excepted: a mutex attempt is not reported if the threads of the cycle that the rules find all
+-- hold one lock that nobody reads.
+
+-- States that the edges are exactly the true waits.
 abbrev pub Exact : Tables → Type 0
 Exact x = (a b : ℕ) → a < THREADS → b < THREADS → Edge (x .waits .«wait_for_graph» .edges) a b ↔ Truly x a b
 
--- nobody but t awaits l. To await is to have an intent; `lock_waiters` may lack a thread that has one.
+-- States that no thread but t awaits the lock l. To await a lock is to have an intent that names it;
+-- `lock_waiters` may lack a thread that has one.
 abbrev pub Alone : Tables → ℕ → ℕ → Type 0
 Alone x t l = (a : ℕ) → names (intentOf (x .waits) a) l ≡ true → a ≡ t
 
--- the attempt is blocked, and its hint is as asked. An accepted hint is below 32, so that it names the recorded owner only
--- where there is one.
+-- States that the attempt is blocked, and that its hint is one that the demand allows. An accepted hint is
+-- below 32, so it is the recorded owner only if there is one.
 abbrev pub Apt : Tables → ℕ → ℕ → ℕ → Outcome → Type 0
 Apt x recorded t l Took = ⊥
 Apt x recorded t l Blocked = Unit
 Apt x recorded t l (Hinted o) = (o ≡ recorded) ⊎ Alone x t l
 
--- the cycle that document 01 finds: the path that registering gives
+-- Returns the waits with the hint recorded as the owner of the mutex l.
 abbrev pub withHint : Waits → ℕ → Outcome → Waits
 withHint w l Took = w
 withHint w l Blocked = w
 withHint w l (Hinted o) = own w o l
 
+-- Returns the cycle that the rules find for a mutex attempt: the path that registering gives.
 abbrev pub pathFound : Tables → ℕ → ℕ → Outcome → Option (List ℕ)
 pathFound x t l o = register (x .«rwlock_readers») (withHint (x .waits) l o) t (mutexOn l) .found
 
--- all threads of p hold one lock that nobody reads
+-- States that all threads of p hold one lock that nobody reads.
 pub record Shared (counts : List ℕ) (w : Waits) (p : List ℕ) : Type 0 where
   pub lock : ℕ
   pub inside : lock < LOCKS
   pub held : (t : ℕ) → In t p → has (holdsOf w t) lock ≡ true
   pub nobodyReads : (t : ℕ) → t < THREADS → countOf counts t lock ≡ 0
 
+-- States that a cycle was found and that its threads share such a lock, in the tables y after the event.
 abbrev pub Spared : Tables → ℕ → ℕ → Outcome → Tables → Type 0
 Spared x t l o y = (p : List ℕ) × (pathFound x t l o ≡ some p) × Shared (y .«rwlock_readers») (y .waits) p
 
--- what is asked of an attempt by t on l with outcome o in tables x that gives n reports and tables y. "Then" is the state
--- after the event; the recorded owner is the writer for ra and wa.
+-- The type of what is demanded of an attempt by t on l with the outcome o in tables x that gives n reports and
+-- tables y. The true waits that count are those in y.
 abbrev pub Converse : Type 1
 Converse = Tables → ℕ → ℕ → Outcome → ℕ → Tables → Type 0
 
+-- States the second half of a mutex attempt.
 abbrev pub MutexConverse : Converse
 MutexConverse x t l o n y = Apt x (ownerOf (x .waits) l) t l o → (0 < n) ↔ (Cycle (Truly y) × (Spared x t l o y → ⊥))
 
+-- States the second half of an attempt to read or to write, for which the recorded owner is the writer.
 abbrev pub RwConverse : Converse
 RwConverse x t l o n y = Apt x (writerOf (x .waits) l) t l o → (0 < n) ↔ Cycle (Truly y)
 
--- THE SECOND HALF (`second-half`), for every attempt that is not refused
+-- States this of every attempt that is not refused.
 abbrev pub Attempted : Converse → (ℕ → ℕ → Outcome → Event) → Type 0
 Attempted Holds event =
     (x : Tables) (room t l : ℕ) (o : Outcome) → Reached x → Exact x → refusal x room (event t l o) ≡ 0
     → Holds x t l o (length (effect x room (event t l o) .reports)) (effect x room (event t l o) .tables)
 
+-- THE SECOND HALF (`second-half`) states this of each of the three attempts.
 pub record SecondHalf : Type 0 where
   pub mutex : Attempted MutexConverse MutexAttempt
   pub read : Attempted RwConverse RwReadAttempt
   pub write : Attempted RwConverse RwWriteAttempt
 
--- CARRIED TO THE CODE (`reports-true`, `converse`): the same of what `step` returns in a state fed from the empty one
+-- CARRIED TO THE CODE: states that the reports that a call gave back are true ones, in number and in bytes.
 pub record TrueReports (d : Detector) (ev : Event) (r : Stepped) (b e : List ℕ) : Type 0 where
   pub reports : List Report
   pub count : reportsOf (r .reply) ≡ length reports
   pub bytes : e ≡ laid b 0 (written reports)
   pub each : Each (TrueReport (tables d) ev (tables (r .detector))) reports
 
+-- States this of every call in a state that is fed from the empty one (`reports-true`).
 abbrev pub ReportsTrue : Type 0
 ReportsTrue =
     (d₀ d : Detector) (ks : List Call) (bs : List Back) → Starts d₀ → Driven d₀ ks bs d
     → (ev : Event) (r : Stepped) (b e : List ℕ) → Steps d ev r b e → TrueReports d ev r b e
 
+-- States the second half of what `step` returns in such a state.
 abbrev pub Called : Converse → (ℕ → ℕ → Outcome → Event) → Type 0
 Called Holds event =
     (d₀ d : Detector) (ks : List Call) (bs : List Back) → Starts d₀ → Driven d₀ ks bs d → Exact (tables d)
     → (t l : ℕ) (o : Outcome) (r : Stepped) (b e : List ℕ) → Steps d (event t l o) r b e → refusedBy (r .reply) ≡ 0
     → Holds (tables d) t l o (reportsOf (r .reply)) (tables (r .detector))
 
+-- States this of each of the three attempts (`converse`).
 pub record CalledHalf : Type 0 where
   pub mutex : Called MutexConverse MutexAttempt
   pub read : Called RwConverse RwReadAttempt

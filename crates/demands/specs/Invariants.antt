@@ -1,4 +1,4 @@
--- WHAT HOLDS OF EVERY REACHED STATE. That the code's places behind a queue's end hold 0 is demand 2's `valid`.
+-- WHAT HOLDS OF EVERY REACHED STATE. That in the code the cells after a queue's end hold 0 is `valid` in demand 2.
 use mathlib.Core.Path.{_≡_}
 use mathlib.Core.List.{List, [], _∷_}
 use mathlib.Core.Bool.{true}
@@ -22,7 +22,8 @@ use Rattle.detector.specs.declared.event.Event.{Event}
 use Rattle.detector.specs.declared.state.Pair.{Pair}
 use Rattle.demands.specs.Reached.{Reached}
 
--- 32 threads and 64 locks, and sets of them
+-- States that the tables have a cell for each of the 32 threads or of the 64 locks, and that their sets are
+-- sets of threads and of locks.
 pub record Shaped (slots : List Slot) (waiters holds owners writers : List ℕ) : Type 0 where
   pub threads : length slots ≡ THREADS
   pub locks : length waiters ≡ LOCKS
@@ -32,25 +33,26 @@ pub record Shaped (slots : List Slot) (waiters holds owners writers : List ℕ) 
   pub owned : length owners ≡ LOCKS
   pub written : length writers ≡ LOCKS
 
+-- States what holds of the waits in every reached state.
 pub record Fine (w : Waits) : Type 0 where
-  -- `edges` and `incoming_edges` mirror each other and hold no cycle, not even of one thread
+  -- The two tables of edges agree, and no edges lead from a thread back to itself.
   pub graph : Good (w .«wait_for_graph»)
-  -- a thread among l's waiters has an intent that names l
+  -- A thread among the waiters of the lock l has an intent that names l.
   pub named : (l t : ℕ) → has (waitersOf w l) t ≡ true → names (intentOf w t) l ≡ true
   pub range : InRange w
   pub shaped : Shaped (w .«thread_waits_for») (w .«lock_waiters») (w .«thread_holds») (w .«mutex_owners») (w .«rwlock_writer»)
 
--- at most 255 at each of 64 locks and 32 threads
+-- States that there is a reader count of at most 255 for each thread and lock.
 pub record Counts (counts : List ℕ) : Type 0 where
   pub size : length counts ≡ COUNTS
   pub small : (k : ℕ) → getD counts k 0 ≤ 255
 
--- every pair of a queue in range
+-- States that every pair of a queue is in range.
 abbrev pub Seated : List Pair → Type 0
 Seated [] = Unit
 Seated (p ∷ q) = (p .thread < THREADS) × (p .lock < LOCKS) × Seated q
 
--- waits of which P holds, and the other tables in their ranges
+-- States that P holds of the waits, and that the other tables are in their ranges.
 pub record KeptWith (P : Waits → Type 0) (x : Tables) : Type 0 where
   pub waits : P (x .waits)
   pub counts : Counts (x .«rwlock_readers»)
@@ -61,12 +63,15 @@ pub record KeptWith (P : Waits → Type 0) (x : Tables) : Type 0 where
   pub cvWaits : (t : ℕ) → ValidCvWait (getD (x .«thread_wait_cv») t blankCvWait)
   pub woken : x .«cv_woken» < 2 ^ 32
 
+-- States all that holds of the tables in every reached state.
 abbrev pub Kept : Tables → Type 0
 Kept = KeptWith Fine
 
--- THE THEOREMS (`reached-kept`, `reached-brief`)
+-- THE THEOREMS. States that reached tables keep this (`reached-kept`).
 abbrev pub ReachedKept : Type 0
 ReachedKept = (x : Tables) → Reached x → Kept x
 
+-- States that in reached tables an event gives few reports, and that the report buffer has room for them
+-- (`reached-brief`).
 abbrev pub ReachedBrief : Type 0
 ReachedBrief = (x : Tables) (room : ℕ) (e : Event) → Reached x → Brief e (effect x room e .reports)

@@ -1,5 +1,5 @@
--- What is asked of the detector, as statements: the sessions worked by hand, what holds of every reached state, and the
--- demands. The proofs stand in proofs/, under the names given beside each statement.
+-- What is demanded of the detector, as statements: the sessions worked by hand, what holds of every reached
+-- state, and the three demands. Beside each statement stands the name of its theorem, which is in proofs/.
 pub mod Reached
 pub mod Sessions
 pub mod Invariants

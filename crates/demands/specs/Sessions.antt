@@ -1,4 +1,4 @@
--- SESSIONS P1 to P10 of document 01: one list, event by event.
+-- SESSIONS 1 to 10, worked by hand: one list, event by event, and further sessions after it.
 use mathlib.Core.Path.{_≡_}
 use mathlib.Core.List.{List, [], _∷_, _++_, map}
 use Prim.Native.Nat.{ℕ}
@@ -24,12 +24,12 @@ use Rattle.detector.specs.declared.state.CvWait.{CvWait}
 use Rattle.detector.specs.Effects.{effect}
 use Rattle.demands.specs.Reached.{reach}
 
--- two numbers side by side: a thread and the lock that it awaits, or an edge
+-- Two numbers side by side are a thread and the lock that it awaits, or an edge.
 abbrev pub Pairs : Type 0
 Pairs = List (ℕ × ℕ)
 
--- WHAT IS SEEN of an event: its refusal (0: none), its reports, also as bytes; and in the tables after it all edges, all
--- intents and the number of stuck threads
+-- WHAT IS SEEN of an event: its refusal, or 0 for none; its reports, as entries and as bytes; and in the tables
+-- after it all edges, all intents and the number of stuck threads.
 pub record Seen : Type 0 where
   pub refused : ℕ
   pub reports : List Pairs
@@ -38,20 +38,24 @@ pub record Seen : Type 0 where
   pub intents : Pairs
   pub stuck : ℕ
 
+-- Returns all edges, upward.
 unfoldable pub edgesIn : List ℕ → Pairs
 edgesIn rows = each (λ l t. l ++ map (λ o. (t, o)) (upward THREADS (row rows t))) [] THREADS
 
+-- Returns the thread t with the lock that it awaits, or nothing if it has no intent.
 abbrev pub intentFrom : ℕ → Awaits → Pairs
 intentFrom t Nothing = []
 intentFrom t (For i) = (t, i .«lock_id») ∷ []
 
+-- Returns all threads that have an intent, each with its lock, upward.
 unfoldable pub intentsIn : Waits → Pairs
 intentsIn w = each (λ l t. l ++ intentFrom t (intentOf w t)) [] THREADS
 
--- a report as document 01 prints it
+-- Returns the entries of a report as they are printed.
 abbrev pub printed : Report → Pairs
 printed r = map (λ e. (e .thread, e .lock)) (entriesOf r)
 
+-- Returns what is seen of an event with the refusal n and the effect a.
 unfoldable pub seen : ℕ → Effect → Seen
 seen n a =
     let w = a .tables .waits in
@@ -64,12 +68,12 @@ seen n a =
       stuck = stuckCount (a .tables);
     }
 
--- what the rules say of events one after the other
+-- Returns what the rules give for events one after the other, from tables x.
 unfoldable pub run : Tables → List Event → List Seen
 run x [] = []
 run x (e ∷ es) = let a = effect x bufferBytes e in seen (refusal x bufferBytes e) a ∷ run (a .tables) es
 
--- THE WORDS, as document 01 writes them
+-- THE WORDS of a script and its outcomes, as the detector has them: the definitions from here to `ce`.
 abbrev pub took : Outcome
 took = Took
 
@@ -133,35 +137,38 @@ ca c = CondvarNotifyAll c
 abbrev pub ce : ℕ → ℕ → ℕ → Event
 ce t c l = CondvarWaitEnd t c l
 
--- THE LIST: each event with what document 01 says of it; where it is silent on an edge or an intent, with what its rules
--- make of it
+-- THE LIST. Holds an event with what is expected of it. An edge or an intent that the session as worked by hand
+-- leaves open is expected as the rules make it.
 pub record Line : Type 0 where
   pub event : Event
   pub expects : Seen
 
--- nothing is reported: the event, then edges, intents and stuck threads
+-- Returns a line that reports nothing: the event, then the edges, intents and stuck threads after it.
 abbrev pub quiet : Event → Pairs → Pairs → ℕ → Line
 quiet e g i n = record { event = e; expects = record { refused = 0; reports = []; bytes = []; edges = g; intents = i; stuck = n } }
 
--- cycles are, or one is: the event, the cycles, their bytes, then as above
+-- Returns a line that reports these cycles, with their bytes, and then the same.
 abbrev pub cycles : Event → List Pairs → List ℕ → Pairs → Pairs → ℕ → Line
 cycles e rs b g i n = record { event = e; expects = record { refused = 0; reports = rs; bytes = b; edges = g; intents = i; stuck = n } }
 
+-- Returns a line that reports one cycle.
 abbrev pub cycle : Event → Pairs → List ℕ → Pairs → Pairs → ℕ → Line
 cycle e r b g i n = cycles e (r ∷ []) b g i n
 
--- refused by this number, with no edge and no intent
+-- Returns a line that is refused by this number, in tables without an edge or an intent.
 abbrev pub refused : Event → ℕ → Line
 refused e n = record { event = e; expects = record { refused = n; reports = []; bytes = []; edges = []; intents = []; stuck = 0 } }
 
--- a session by its number in document 01
+-- Holds a session: its number and its lines. Session 2 has two parts, each with this number.
 pub record Session : Type 0 where
   pub number : ℕ
   pub lines : List Line
 
+-- Returns a session of this number and these lines.
 abbrev pub session : ℕ → List Line → Session
 session n ls = record { number = n; lines = ls }
 
+-- The ten sessions.
 unfoldable pub sessions : List Session
 sessions =
     session 1
@@ -170,7 +177,7 @@ sessions =
     ∷ quiet (ma 1 6 blocked) ((1, 2) ∷ []) ((1, 6) ∷ []) 0
     ∷ cycle (ma 2 5 blocked) ((1, 6) ∷ (2, 5) ∷ []) (2 ∷ 1 ∷ 6 ∷ 2 ∷ 5 ∷ []) ((1, 2) ∷ []) ((1, 6) ∷ (2, 5) ∷ []) 2
     ∷ [])
-    -- a relock; and the same with a reader between
+    -- A thread locks its mutex again; then the same with a reader between.
     ∷ session 2
     (quiet (ma 1 5 took) [] [] 0
     ∷ quiet (ma 1 5 blocked) [] ((1, 5) ∷ []) 1
@@ -184,7 +191,7 @@ sessions =
     (quiet (ra 3 7 took) [] [] 0
     ∷ cycle (wa 3 7 blocked) ((3, 7) ∷ []) (1 ∷ 3 ∷ 7 ∷ []) [] ((3, 7) ∷ []) 1
     ∷ [])
-    -- the later owner's edge is stored though a path was found
+    -- The edge to the later owner is stored though a path was found.
     ∷ session 4
     (quiet (ra 3 7 took) [] [] 0
     ∷ quiet (ra 4 7 took) [] [] 0
@@ -229,22 +236,22 @@ sessions =
     ∷ [])
     ∷ []
 
--- FURTHER SESSIONS, not document 01's: for rules that P1 to P10 do not tell from others, and so that each of the 18 words
--- stands in one
+-- FURTHER SESSIONS, for rules that sessions 1 to 10 do not tell from others, and so that each of the 18 words
+-- stands in a session.
 unfoldable pub further : List Session
 further =
-    -- stuck goes by true waits, not by edges; a hint is recorded, and refreshes nobody else
+    -- Stuck goes by true waits, not by edges; a hint is recorded, and refreshes nobody else.
     session 11
     (quiet (ma 0 0 blocked) [] ((0, 0) ∷ []) 0
     ∷ quiet (ma 1 0 (hint 0)) ((1, 0) ∷ []) ((0, 0) ∷ (1, 0) ∷ []) 1
     ∷ [])
-    -- rr at count 0 drops the edges too
+    -- rr at count 0 drops the edges too.
     ∷ session 12
     (quiet (wa 2 7 took) [] [] 0
     ∷ quiet (wa 4 7 blocked) ((4, 2) ∷ []) ((4, 7) ∷ []) 0
     ∷ quiet (rr 2 7) [] ((4, 7) ∷ []) 0
     ∷ [])
-    -- readers come before the writer, also where its number is lower
+    -- Readers come before the writer, even if its number is lower.
     ∷ session 13
     (quiet (rc 5 7) [] [] 0
     ∷ quiet (wc 2 7) [] [] 0
@@ -252,37 +259,37 @@ further =
     ∷ quiet (ma 2 1 (hint 4)) ((2, 4) ∷ (5, 4) ∷ []) ((2, 1) ∷ (5, 1) ∷ []) 0
     ∷ cycle (wa 4 7 blocked) ((5, 1) ∷ (4, 7) ∷ []) (2 ∷ 5 ∷ 1 ∷ 4 ∷ 7 ∷ []) ((2, 4) ∷ (5, 4) ∷ []) ((2, 1) ∷ (4, 7) ∷ (5, 1) ∷ []) 3
     ∷ [])
-    -- rd takes the number out of a mutex's holds and leaves its owner
+    -- rd takes the number out of the holds though a mutex gave it, and leaves the owner of the mutex.
     ∷ session 14
     (quiet (ma 1 5 took) [] [] 0
     ∷ quiet (rd 5) [] [] 0
     ∷ cycle (ma 1 5 blocked) ((1, 5) ∷ []) (1 ∷ 1 ∷ 5 ∷ []) [] ((1, 5) ∷ []) 1
     ∷ [])
-    -- md finds its waiters by their intents: rd has emptied `lock_waiters`
+    -- md finds its waiters by their intents, since rd has emptied `lock_waiters`.
     ∷ session 15
     (quiet (ma 1 5 took) [] [] 0
     ∷ quiet (ma 2 5 blocked) ((2, 1) ∷ []) ((2, 5) ∷ []) 0
     ∷ quiet (rd 5) ((2, 1) ∷ []) ((2, 5) ∷ []) 0
     ∷ quiet (md 5) [] [] 0
     ∷ [])
-    -- rt keeps the intent
+    -- rt keeps the intent.
     ∷ session 16
     (quiet (wc 1 7) [] [] 0
     ∷ quiet (wa 2 7 blocked) ((2, 1) ∷ []) ((2, 7) ∷ []) 0
     ∷ quiet (rt 2 7) ((2, 1) ∷ []) ((2, 7) ∷ []) 1
     ∷ [])
-    -- mr refreshes
+    -- mr refreshes.
     ∷ session 17
     (quiet (ma 1 5 took) [] [] 0
     ∷ quiet (ma 2 5 blocked) ((2, 1) ∷ []) ((2, 5) ∷ []) 0
     ∷ quiet (mr 1 5) [] ((2, 5) ∷ []) 0
     ∷ [])
-    -- a write cycle is not filtered
+    -- A write cycle is not filtered.
     ∷ session 18
     (quiet (wa 3 7 took) [] [] 0
     ∷ cycle (wa 3 7 blocked) ((3, 7) ∷ []) (1 ∷ 3 ∷ 7 ∷ []) [] ((3, 7) ∷ []) 1
     ∷ [])
-    -- the path found, 4 5, is stale; the refreshes find another, 3 4, which is true
+    -- The path that is found, 4 5, is stale; the refreshes find another, 3 4, which is true.
     ∷ session 19
     (quiet (ma 4 2 took) [] [] 0
     ∷ quiet (ma 5 1 took) [] [] 0
@@ -291,18 +298,19 @@ further =
     ∷ quiet (ma 6 1 (hint 3)) ((3, 4) ∷ (4, 5) ∷ (6, 3) ∷ []) ((3, 2) ∷ (4, 1) ∷ (6, 1) ∷ []) 2
     ∷ cycle (ma 5 2 blocked) ((3, 2) ∷ (4, 1) ∷ []) (2 ∷ 3 ∷ 2 ∷ 4 ∷ 1 ∷ []) ((3, 4) ∷ (5, 4) ∷ (6, 3) ∷ []) ((3, 2) ∷ (4, 1) ∷ (5, 2) ∷ (6, 1) ∷ []) 2
     ∷ [])
-    -- mc refreshes, wr drops edges
+    -- mc refreshes.
     ∷ session 20
     (quiet (ma 1 5 took) [] [] 0
     ∷ quiet (ma 2 5 blocked) ((2, 1) ∷ []) ((2, 5) ∷ []) 0
     ∷ quiet (mc 3 5) ((2, 3) ∷ []) ((2, 5) ∷ []) 0
     ∷ [])
+    -- wr drops edges.
     ∷ session 21
     (quiet (wa 2 7 took) [] [] 0
     ∷ quiet (wa 4 7 blocked) ((4, 2) ∷ []) ((4, 7) ∷ []) 0
     ∷ quiet (wr 2 7) [] ((4, 7) ∷ []) 0
     ∷ [])
-    -- a woken thread waits only where its lock has an owner; ca wakes all
+    -- A woken thread waits only if its lock has an owner; ca wakes all.
     ∷ session 22
     (quiet (cb 2 0 5) [] [] 0
     ∷ quiet (c1 0) [] [] 0
@@ -311,7 +319,7 @@ further =
     ∷ quiet (cb 3 0 5) [] [] 0
     ∷ quiet (ca 0) ((2, 1) ∷ (3, 1) ∷ []) ((2, 5) ∷ (3, 5) ∷ []) 0
     ∷ [])
-    -- cn and cd empty one queue: nobody is left there to wake
+    -- cn and cd empty one queue, so nobody is left there to wake.
     ∷ session 23
     (quiet (ma 1 5 took) [] [] 0
     ∷ quiet (cb 2 0 5) [] [] 0
@@ -323,7 +331,7 @@ further =
     ∷ quiet (ca 0) [] [] 0
     ∷ quiet (c1 1) ((3, 1) ∷ []) ((3, 5) ∷ []) 0
     ∷ [])
-    -- ca reports for each pair; a pair that stands twice is treated twice
+    -- ca reports for each pair, and a pair that stands twice is treated twice.
     ∷ session 24
     (quiet (ma 1 5 took) [] [] 0
     ∷ quiet (rc 2 5) [] [] 0
@@ -333,22 +341,26 @@ further =
     ∷ [])
     ∷ []
 
--- what the rules say of the sessions' events, and what document 01 says of them
+-- Returns what the rules give for the events of the sessions.
 unfoldable pub ruled : List Session → List (List Seen)
 ruled ss = map (λ s. run empty (map (λ k. k .event) (s .lines))) ss
 
+-- Returns what is expected of them.
 unfoldable pub expected : List Session → List (List Seen)
 expected ss = map (λ s. map (λ k. k .expects) (s .lines)) ss
 
--- cn keeps a thread's wait and cd drops it: no later event tells them apart, the tables do
+-- Returns the cv wait of the thread t after the events es from the empty state.
 abbrev pub cvWaitAfter : List Event → ℕ → CvWait
 cvWaitAfter es t = getD (reach empty es .«thread_wait_cv») t blankCvWait
 
+-- States that cn keeps a cv wait and cd drops it (`cv-waits-hold`). No later event tells the two apart, but the
+-- tables do.
 pub record CvWaitsHold : Type 0 where
   pub spawned : cvWaitAfter (cb 2 0 5 ∷ cn 0 ∷ []) 2 ≡ record { condvar = 0; lock = 5 }
   pub gone : cvWaitAfter (cb 2 0 5 ∷ cd 0 ∷ []) 2 ≡ noCvWait
 
--- THE THEOREMS (`sessions-hold`, `further-hold`, `waits-hold`)
+-- THE THEOREMS: the rules give what is expected of the sessions (`sessions-hold`) and of the further ones
+-- (`further-hold`).
 abbrev pub SessionsHold : Type 0
 SessionsHold = ruled sessions ≡ expected sessions
 

@@ -1,4 +1,4 @@
--- How many reports an event gives, and how many bytes they take: in every state whose queues are no longer than 32.
+-- How many reports an event gives, and how many bytes they take, wherever no queue has more than 32 pairs.
 use mathlib.Core.Path.{_≡_, refl}
 use mathlib.Core.List.{List, [], _∷_, _++_, foldl}
 use mathlib.Core.Bool.{Bool, true, false, cond}
@@ -35,20 +35,23 @@ use Rattle.detector.proofs.Numbers.{accepted, queue-length}
 use Rattle.detector.specs.Effects.{effect}
 use Rattle.detector.specs.Brief.{most, ShortQueues, Brief, AllBrief, ValidBrief}
 
--- at most n reports, each of at most 32 entries
+-- States that there are at most n reports, and that they take at most reportBytes for each.
 record Short (n : ℕ) (rs : List Report) : Type 0 where
   few : length rs ≤ n
   bytes : length (written rs) ≤ reportBytes * length rs
 
+-- The empty list has at most n reports.
 short-none : (n : ℕ) → Short n []
 unfolding written
 short-none n = record { few = omega arith; bytes = lit≤ tt }
 
--- ---- a judgement
+-- ---- Judging one path
 
+-- States that judging a path gave at most one report.
 abbrev One : Judging → Type 0
 One a = Short 1 (a .reports)
 
+-- Reporting nothing or one cycle gives at most one report, and so does every rule that judges a path.
 one-quiet : (w : Waits) → One (quiet w)
 one-quiet w = short-none 1
 
@@ -100,13 +103,15 @@ module _ (c : List ℕ) (w : Waits) where
   unfolding attempted
   one-attempted p = either (ltb (ownerOf w (p .lock)) 32) (blockMutex c w (p .thread) (p .lock)) (quiet w) (one-mutex (p .thread) (p .lock)) (one-quiet w)
 
--- ---- a walk over a queue
+-- ---- A walk over a queue
 
+-- Two lists of reports joined take as many bytes as both.
 written-length : (a b : List Report) → length (written (a ++ b)) ≡ length (written a) + length (written b)
 unfolding written
 written-length [] b = omega arith
 written-length (r ∷ a) b = omega (arith, length-append (bytesOf r) (written (a ++ b)), length-append (bytesOf r) (written a), written-length a b)
 
+-- A walk over a queue adds at most one report for each pair.
 short-walk : (c : List ℕ) (q : List Pair) (s : Woken) (n : ℕ) → Short n (s .reports) → Short (n + length q) (foldl (wake c) s q .reports)
 unfolding wake
 short-walk c [] s n h = record { few = omega (arith, h .few); bytes = h .bytes }
@@ -119,8 +124,9 @@ short-walk c (p ∷ q) s n h =
     }) in
     record { few = omega (arith, k .few); bytes = k .bytes }
 
--- ---- every event
+-- ---- Every event
 
+-- The event c1 gives at most one report.
 short-first : (x : Tables) (c : ℕ) → Short 1 (notifyOne x c .reports)
 unfolding notifyOne wakeAll
 short-first x c = go (queueOf x c)
@@ -129,12 +135,14 @@ short-first x c = go (queueOf x c)
     go [] = short-none 1
     go (p ∷ q) = short-walk (x .«rwlock_readers») (p ∷ []) _ 0 (short-none 0)
 
+-- The event ca gives no more than 32 reports.
 short-all : (x : Tables) (c : ℕ) → length (queueOf x c) ≤ 32 → Short 32 (notifyAll x c .reports)
 unfolding notifyAll wakeAll
 short-all x c h =
     let k = short-walk (x .«rwlock_readers») (queueOf x c) (record { waits = x .waits; woken = x .«cv_woken»; reports = [] }) 0 (short-none 0) in
     record { few = omega (arith, h, k .few); bytes = k .bytes }
 
+-- Every event gives at most as many reports as `most` says.
 short-apply : (x : Tables) (e : Event) (room : ℕ) → Inside (numbersOf e) room → ShortQueues x → Short (most e) (apply e x .reports)
 unfolding completeAcquire acquireSlow releaseMutex destroyMutex completeRead acquireRead tryRead releaseRead completeWrite acquireWrite releaseWrite destroyRwLock createCondvar destroyCondvar beginWait endWait
 short-apply x (MutexAttempt t l Took) n h k = one-settle _ _ l
@@ -163,6 +171,7 @@ short-apply x (CondvarNotifyOne c) n h k = short-first x c
 short-apply x (CondvarNotifyAll c) n h k = short-all x c (k c (h .condvar))
 short-apply x (CondvarWaitEnd t c l) n h k = short-none 0
 
+-- No event gives more than 32 reports.
 pub most-32 : (e : Event) → most e ≤ 32
 most-32 (MutexAttempt t l o) = lit≤ tt
 most-32 (MutexAcquired t l) = lit≤ tt
@@ -185,9 +194,11 @@ most-32 (CondvarWaitEnd t c l) = lit≤ tt
 
 -- ---- THEOREMS
 
+-- At most 32 reports, each of at most reportBytes, have room in the buffer.
 brief : (e : Event) (rs : List Report) → Short (most e) rs → Brief e rs
 brief e rs s = record { few = s .few; room = omega (arith, s .few, s .bytes, most-32 e) }
 
+-- Reports are few and have room wherever the queues are short.
 pub all-brief : AllBrief
 unfolding effect
 all-brief x room e k = go (eqb (refusal x room e) 0) refl
@@ -196,5 +207,6 @@ all-brief x room e k = go (eqb (refusal x room e) 0) refl
     go true q = brief e _ (short-apply x e room (accepted x room e (eqb-true _ _ q) .inside) k)
     go false q = brief e _ (short-none (most e))
 
+-- That is so in every valid state.
 pub valid-brief : ValidBrief
 valid-brief d room e v = all-brief (tables d) room e (λ c h. omega (arith, queue-length d c v h, v .queues c h .long))

@@ -1,12 +1,13 @@
--- Laws of the events, and the code they are tied to.
+-- Laws of the events, and the ties from the code to them.
 pub mod Ranges
 pub mod Promises
 pub mod Queues
 pub mod Numbers
 pub mod Serving
--- Theorems: all-brief, valid-brief
+-- This file has the theorems `all-brief` and `valid-brief`.
 pub mod Brief
--- Theorems: refusal 2 is a test of validity, and a valid state is determined by its tables
+-- These have the theorems that refusal 2 is a test of validity, that the tables of a valid state determine it, and what
+-- it means to be stuck.
 pub mod Validity
 pub mod SameState
 pub mod StuckLaws

@@ -1,4 +1,4 @@
--- What it means that an event is not refused, and by which numbers one is.
+-- What it means that an event is accepted, and which refusals there are.
 use mathlib.Core.Path.{_≡_, refl, sym, ap, _∙_}
 use mathlib.Core.Bool.{Bool, true, false, cond}
 use Prim.Native.Nat.{ℕ, _<_, _≤_}
@@ -18,19 +18,22 @@ use Rattle.detector.specs.declared.event.Event.{Event}
 use Rattle.detector.specs.declared.event.Event.the-variants.{MutexAttempt, MutexAcquired, MutexReleased, MutexExit, RwReadAttempt, RwReadAcquired, RwReadTry, RwReadReleased, RwWriteAttempt, RwWriteAcquired, RwWriteReleased, RwExit, CondvarSpawn, CondvarExit, CondvarWaitBegin, CondvarNotifyOne, CondvarNotifyAll, CondvarWaitEnd}
 use Rattle.detector.specs.declared.state.Detector.{Detector}
 
+-- Returns the lowest refusal of 3 to 6 whose test is true, or `next` if none is.
 abbrev chosen : Bool → Bool → Bool → Bool → Bool → ℕ → ℕ
 chosen t h l c r next = cond t 3 (cond h 3 (cond l 4 (cond c 5 (cond r 6 next))))
 
 module _ (n : Numbers) (room : ℕ) where
-  -- inside, the numbers refuse nothing, and what is next decides
+  -- If the numbers are in range, they refuse nothing, and `next` decides.
   pub inside-next : (next : ℕ) → Inside n room → outside n room next ≡ next
   unfolding outside
   inside-next next i =
       rw (le-ltb 31 (n .thread) (omega (arith, i .thread)), le-ltb 31 (n .hint) (omega (arith, i .hint)), le-ltb 63 (n .lock) (omega (arith, i .lock)), le-ltb 15 (n .condvar) (omega (arith, i .condvar)), le-ltb room bufferBytes (i .room))
 
+  -- States that the numbers are in range if k is 0, and that k is their refusal if it is above 0.
   Refusing : (k next : ℕ) → Type 0
   Refusing k next = ((k ≡ 0) → Inside n room) × ((0 < k) → outside n room next ≡ k)
 
+  -- The refusal that the numbers alone give is such a k.
   cases : (next : ℕ) → Refusing (outside n room 0) next
   unfolding outside Refusing
   cases next = go (ltb 31 (n .thread)) (ltb 31 (n .hint)) (ltb 63 (n .lock)) (ltb 15 (n .condvar)) (ltb room bufferBytes) refl refl refl refl refl
@@ -53,19 +56,22 @@ module _ (n : Numbers) (room : ℕ) where
         λ e. absurd (omega arith),
       )
 
+  -- If no number refuses, all are in range.
   pub inside : outside n room 0 ≡ 0 → Inside n room
   unfolding Refusing
   inside e = cases 0 .0 e
 
+  -- If a number refuses, its refusal is given.
   pub outside-first : (next : ℕ) → 0 < outside n room 0 → outside n room next ≡ outside n room 0
   unfolding Refusing
   outside-first next h = cases next .1 h
 
--- an accepted event: its numbers lie inside, and nothing is full
+-- States that the numbers of an event are in range, and that nothing it needs is full.
 pub record Accepted (x : Tables) (room : ℕ) (e : Event) : Type 0 where
   pub inside : Inside (numbersOf e) room
   pub notFull : full x e ≡ 0
 
+-- An event without a refusal is accepted.
 pub accepted : (x : Tables) (room : ℕ) (e : Event) → refusal x room e ≡ 0 → Accepted x room e
 unfolding refusal
 accepted x room e r = go (outside (numbersOf e) room 0) refl
@@ -79,9 +85,9 @@ accepted x room e r = go (outside (numbersOf e) room 0) refl
             let i = inside (numbersOf e) room (omega (arith, q)) in
             record { inside = i; notFull = sym (inside-next (numbersOf e) room (full x e) i) ∙ r }
 
--- ---- the numbers there are
+-- ---- The refusals that there are
 
--- 0, or from 3 to 8
+-- States that k is 0, or a number from 3 to 8.
 pub record Known (k : ℕ) : Type 0 where
   pub least : 0 < k → 3 ≤ k
   pub most : k ≤ 8
@@ -123,6 +129,7 @@ module _ (x : Tables) where
   full-known (CondvarNotifyAll c) = known-none
   full-known (CondvarWaitEnd t c l) = known-none
 
+  -- Every refusal of an event is one of these.
   pub refusal-known : (room : ℕ) (e : Event) → Known (refusal x room e)
   unfolding refusal outside
   refusal-known room e =
@@ -131,19 +138,20 @@ module _ (x : Tables) where
       known-if (ltb 31 (n .thread)) three (known-if (ltb 31 (n .hint)) three (known-if (ltb 63 (n .lock)) (known 4 (lit≤ tt) (lit≤ tt))
       (known-if (ltb 15 (n .condvar)) (known 5 (lit≤ tt) (lit≤ tt)) (known-if (ltb room bufferBytes) (known 6 (lit≤ tt) (lit≤ tt)) (full-known e)))))
 
--- ---- queues
+-- ---- Queues
 
--- a queue's length as the code keeps it
+-- The queue that the tables have is the code's queue as a list.
 pub queue-at : (d : Detector) (c : ℕ) → queueOf (tables d) c ≡ pairsOf (getD (d .condvars .«cv_waiters») c blankQueue)
 queue-at d c = List·getD-map pairsOf (d .condvars .«cv_waiters») c blankQueue
 
+-- Its length is the length that the code keeps.
 pub queue-length : (d : Detector) (c : ℕ) → Valid d → c < 16 → length (queueOf (tables d) c) ≡ getD (d .condvars .«cv_waiters») c blankQueue .len
 queue-length d c v h =
     let q = getD (d .condvars .«cv_waiters») c blankQueue in
     let k = v .queues c h in
     ap length (queue-at d c) ∙ length-take-le (q .len) (q .pairs) (omega (arith, k .long, k .cells))
 
--- a queue that is not full has room for one pair more
+-- A queue that is not full has room for one more pair.
 pub room-left : (d : Detector) (c : ℕ) → Valid d → c < 16 → fullQueue (tables d) c ≡ 0 → getD (d .condvars .«cv_waiters») c blankQueue .len < 32
 room-left d c v h e = go (ltb (length (queueOf (tables d) c)) 32) refl e
   where

@@ -1,4 +1,4 @@
--- The queues of the condition variables: what their cells hold, the walk over one, and what an event makes of a state.
+-- The queues of the condvars: what their places hold, the walk over one, and what an event does to a state.
 use mathlib.Core.Path.{_≡_, refl, sym, ap, ap₂, _∙_, subst}
 use mathlib.Core.List.{List, [], _∷_, _++_, map, foldl, append-assoc, append-nil}
 use mathlib.Core.Bool.{Bool, true, false, cond}
@@ -32,9 +32,9 @@ use Rattle.detector.specs.declared.state.CvWait.{CvWait}
 use Rattle.detector.specs.declared.state.Detector.{Detector}
 use Rattle.detector.specs.declared.condvar.Awake.{Awake}
 
--- ---- cells
+-- ---- Places
 
--- what holds of an entry and of the new one holds of it after the store
+-- What is true of the value stored and of a place before is true of this place after the store.
 put-keeps : {A : Type 0} (P : A → Type 0) (l : List A) (i k : ℕ) (v d : A) → P v → P (getD l k d) → P (getD (set l i v) k d)
 put-keeps P [] i k v d p h = h
 put-keeps P (x ∷ l) zero zero v d p h = p
@@ -42,16 +42,18 @@ put-keeps P (x ∷ l) zero (suc k) v d p h = h
 put-keeps P (x ∷ l) (suc i) zero v d p h = h
 put-keeps P (x ∷ l) (suc i) (suc k) v d p h = put-keeps P l i k v d p h
 
+-- Every place of a table without pairs holds 0.
 pub pairs-none : (n k : ℕ) → getD (replicate n noPair) k noPair ≡ noPair
 pairs-none zero k = refl
 pairs-none (suc n) zero = refl
 pairs-none (suc n) (suc k) = pairs-none n k
 
--- the first k cells hold the list, and those behind nothing
+-- States that the first k places have the pairs of the list, and that the places after them hold 0.
 pub record Holds (cells : List Pair) (k : ℕ) (l : List Pair) : Type 0 where
   pub queued : Queued (record { pairs = cells; len = k })
   pub list : take k cells ≡ l
 
+-- Places without pairs have the empty list.
 pub holds-none : Holds (replicate 32 noPair) 0 []
 holds-none =
     record {
@@ -60,14 +62,16 @@ holds-none =
         cells = refl;
         threads = λ k. rw (pairs-none 32 k) (lit< tt);
         locks = λ k. rw (pairs-none 32 k) (lit< tt);
-        behind = λ k h. pairs-none 32 k;
+        unused = λ k h. pairs-none 32 k;
       };
       list = refl;
     }
 
+-- The empty queue is valid.
 pub queued-none : Queued emptyQueue
 queued-none = holds-none .queued
 
+-- Storing a pair at the next place adds it to the end of the list.
 pub holds-more : (cells : List Pair) (k : ℕ) (l : List Pair) (p : Pair) → Holds cells k l → k < 32 → p .thread < 32 → p .lock < 64
     → Holds (set cells k p) (k + 1) (l ++ (p ∷ []))
 holds-more cells k l p h n t o =
@@ -78,20 +82,22 @@ holds-more cells k l p h n t o =
         cells = length-set cells k p ∙ q .cells;
         threads = set-all (λ (x : Pair). x .thread < 32) cells k p noPair t (q .threads);
         locks = set-all (λ (x : Pair). x .lock < 64) cells k p noPair o (q .locks);
-        behind = λ j g. getD-set-other cells k j p noPair (λ e. omega arith) ∙ q .behind j (omega arith);
+        unused = λ j g. getD-set-other cells k j p noPair (λ e. omega arith) ∙ q .unused j (omega arith);
       };
       list = rw (add-one, take-suc-set cells k p (omega (arith, q .cells)), h .list);
     }
 
+-- The same of an equal number of places and an equal list.
 pub holds-same : {cells : List Pair} {k j : ℕ} {l m : List Pair} → k ≡ j → l ≡ m → Holds cells k l → Holds cells j m
 holds-same {cells} {k} {j} {l} {m} e f h = subst (λ (n : ℕ). Holds cells n m) e (subst (λ (x : List Pair). Holds cells k x) f h)
 
--- ---- one pair more of a queue that is walked
+-- ---- One more pair of a queue in a walk over it
 
+-- One more place is one more pair at the end.
 pub take-next : (ps : List Pair) (i : ℕ) → i < length ps → take (i + 1) ps ≡ take i ps ++ (getD ps i noPair ∷ [])
 take-next ps i h = rw add-one (take-suc ps i noPair h)
 
--- but the first
+-- The same of the pairs without the first one.
 tail-append : (l m : List Pair) → 0 < length l → tailOf (l ++ m) ≡ tailOf l ++ m
 tail-append [] m h = absurd (omega arith)
 tail-append (p ∷ l) m h = refl
@@ -104,13 +110,15 @@ pub tail-one : (ps : List Pair) → tailOf (take 1 ps) ≡ []
 tail-one [] = refl
 tail-one (p ∷ ps) = refl
 
+-- The pairs are the first one and the others.
 pub first-of : (ps : List Pair) (n : ℕ) → 0 < n → 0 < length ps → take n ps ≡ getD ps 0 noPair ∷ tailOf (take n ps)
 first-of [] n z h = absurd (omega arith)
 first-of (p ∷ ps) zero z h = absurd (omega arith)
 first-of (p ∷ ps) (suc n) z h = refl
 
--- ---- every pair (t, l) leaves
+-- ---- The pairs (t, l) leave a queue
 
+-- Taking the pairs (t, l) out of two lists joined takes them out of each.
 leave-append : (t l : ℕ) (x y : List Pair) → leave t l (x ++ y) ≡ leave t l x ++ leave t l y
 unfolding leave
 leave-append t l [] y = refl
@@ -122,6 +130,7 @@ leave-append t l (p ∷ x) y = go (isPair t l p) (leave-append t l x y)
     go false r = ap (λ (z : List Pair). p ∷ z) r
 
 module _ (t l : ℕ) (ps : List Pair) (i : ℕ) (h : i < length ps) where
+  -- A pair (t, l) is not kept, and any other is.
   pub leave-one : isPair t l (getD ps i noPair) ≡ true → leave t l (take i ps) ≡ leave t l (take (i + 1) ps)
   unfolding leave
   leave-one e = sym (ap (leave t l) (take-next ps i h) ∙ leave-append t l (take i ps) _ ∙ rw e (append-nil (leave t l (take i ps))))
@@ -134,21 +143,24 @@ pub leave-none : (t l : ℕ) (ps : List Pair) → leave t l (take 0 ps) ≡ []
 unfolding leave
 leave-none t l ps = refl
 
--- ---- waits on condvars
+-- ---- Cv waits
 
+-- The value that stands for no cv wait is valid, and so is a cv wait with condvar and lock in range.
 pub cv-wait-none : ValidCvWait noCvWait
 cv-wait-none = record { condvar = lit≤ tt; lock = lit< tt; absent = λ e. refl }
 
 pub cv-wait-some : (c l : ℕ) → c < 16 → l < 64 → ValidCvWait (record { condvar = c; lock = l })
 cv-wait-some c l h k = record { condvar = omega arith; lock = k; absent = λ e. absurd (omega arith) }
 
+-- Storing a valid cv wait keeps all cv waits valid.
 pub cv-wait-set : (v : List CvWait) (t : ℕ) (u : CvWait) → ValidCvWait u → ((k : ℕ) → ValidCvWait (getD v k blankCvWait)) → (k : ℕ) → ValidCvWait (getD (set v t u) k blankCvWait)
 cv-wait-set v t u h a = set-all ValidCvWait v t u blankCvWait h a
 
--- the waits for c dropped below n
+-- Returns the cv waits without those for c of the threads below n.
 abbrev pub forgetBelow : List CvWait → ℕ → ℕ → List CvWait
 forgetBelow v c n = each (λ u t. cond (eqb (condvarAt v t) c) (set u t noCvWait) u) v n
 
+-- A loop over the threads removes the cv waits for c one after the other.
 pub forget-none : (v : List CvWait) (c : ℕ) → v ≡ forgetBelow v c 0
 forget-none v c = sym (each-none _ v)
 
@@ -163,6 +175,7 @@ pub forget-all : (v : List CvWait) (c : ℕ) → forgetBelow v c 32 ≡ forget v
 unfolding forget
 forget-all v c = refl
 
+-- Removing cv waits keeps all cv waits valid.
 pub cv-wait-forget : (v : List CvWait) (c : ℕ) → ((k : ℕ) → ValidCvWait (getD v k blankCvWait)) → (k : ℕ) → ValidCvWait (getD (forget v c) k blankCvWait)
 unfolding forget
 cv-wait-forget v c h =
@@ -172,15 +185,16 @@ cv-wait-forget v c h =
     go u t a true = cv-wait-set u t noCvWait cv-wait-none a
     go u t a false = a
 
--- ---- waking
+-- ---- Waking
 
+-- The bytes of two lists of reports joined are the bytes of both, joined.
 written-append : (x y : List Report) → written (x ++ y) ≡ written x ++ written y
 unfolding written
 written-append [] y = refl
 written-append (r ∷ x) y = ap (λ (l : List ℕ). bytesOf r ++ l) (written-append x y) ∙ sym (append-assoc (bytesOf r) (written x) (written y))
 
 module _ (c : List ℕ) (p : Pair) (a : Awake) (b m : List ℕ) (s : Woken) (k : Wakes a b m s) (v : ℕ) (x : v ≡ with (a .woken) (p .thread)) where
-  -- its lock has an owner: the attempt's reports follow
+  -- If the pair's lock has a mutex owner, the reports of the attempt come after those so far.
   pub wake-more : (d : Judged) (e : List ℕ) → ownerOf (a .waits) (p .lock) < 32
       → Judges d m e (a .used) (blockMutex c (a .waits) (p .thread) (p .lock))
       → Wakes (record { waits = d .waits; woken = v; reports = a .reports + d .reports; used = d .used }) b e (wake c s p)
@@ -202,6 +216,7 @@ module _ (c : List ℕ) (p : Pair) (a : Awake) (b m : List ℕ) (s : Woken) (k :
         inRange = t .inRange;
       })
 
+  -- If it has none, no report is added.
   pub wake-less : 32 ≤ ownerOf (a .waits) (p .lock)
       → Wakes (record { waits = a .waits; woken = v; reports = a .reports; used = a .used }) b m (wake c s p)
   unfolding wake attempted
@@ -209,6 +224,7 @@ module _ (c : List ℕ) (p : Pair) (a : Awake) (b m : List ℕ) (s : Woken) (k :
       rw (← k .waits, le-ltb _ _ h, append-nil)
       (record { waits = refl; woken = x ∙ ap (λ (n : ℕ). with n (p .thread)) (k .woken); count = k .count; bytes = k .bytes; used = k .used; inRange = k .inRange })
 
+-- One turn of the loop wakes one more pair.
 pub wake-step : (c : List ℕ) (s : Woken) (ps : List Pair) (i : ℕ) → i < length ps
     → wake c (wakeAll c s (take i ps)) (getD ps i noPair) ≡ wakeAll c s (take (i + 1) ps)
 unfolding wakeAll
@@ -222,23 +238,26 @@ pub wake-first : (c : List ℕ) (s : Woken) (p : Pair) → wakeAll c s (p ∷ []
 unfolding wakeAll
 wake-first c s p = refl
 
+-- Without reports the buffer stays as it is.
 pub silent-bytes : (b : List ℕ) → b ≡ laid b 0 (written [])
 unfolding written
 silent-bytes b = sym (laid-none b 0)
 
+-- Before the first pair no report is made.
 pub wakes-start : (w : Waits) (n : ℕ) (b : List ℕ) → InRange w
     → Wakes (record { waits = w; woken = n; reports = 0; used = 0 }) b b (record { waits = w; woken = n; reports = [] })
 unfolding written
 wakes-start w n b h = record { waits = refl; woken = refl; count = refl; bytes = sym (laid-none b 0); used = refl; inRange = h }
 
--- ---- the state
+-- ---- The state
 
+-- Storing a value and then mapping is mapping and then storing.
 map-set : {A B : Type 0} (f : A → B) (l : List A) (i : ℕ) (v : A) → map f (set l i v) ≡ set (map f l) i (f v)
 map-set f [] i v = refl
 map-set f (x ∷ l) zero v = refl
 map-set f (x ∷ l) (suc i) v = ap (λ (r : List _). f x ∷ r) (map-set f l i v)
 
--- the state with q for the queue of c, and with other waits
+-- Returns the state with q as the queue of c, and with other cv waits, waits and woken threads.
 abbrev pub queuedState : Detector → ℕ → Queue → List CvWait → Waits → ℕ → Detector
 queuedState d c q v w m =
     record {
@@ -249,6 +268,7 @@ queuedState d c q v w m =
     }
 
 module _ (d : Detector) (c : ℕ) (q : Queue) (l : List Pair) (v : List CvWait) (w : Waits) (m : ℕ) where
+  -- An event that changes these keeps its promise.
   pub queue-does : Valid d → Queued q → pairsOf q ≡ l → ((t : ℕ) → ValidCvWait (getD v t blankCvWait)) → InRange w
       → (n : ℕ) (rs : List Report) (b e : List ℕ) → n ≡ length rs → e ≡ laid b 0 (written rs)
       → Does (record { detector = queuedState d c q v w m; reports = n }) b e
@@ -265,19 +285,20 @@ module _ (d : Detector) (c : ℕ) (q : Queue) (l : List Pair) (v : List CvWait) 
         };
       }
 
-  -- without a report
+  -- The same without a report.
   pub silent-does : Valid d → Queued q → pairsOf q ≡ l → ((t : ℕ) → ValidCvWait (getD v t blankCvWait)) → InRange w → (b : List ℕ)
       → Does (record { detector = queuedState d c q v w m; reports = 0 }) b b (record { tables = withWoken (withQueue (tables d) c l v) w m; reports = [] })
   silent-does h u f a i b = queue-does h u f a i 0 [] b b refl (silent-bytes b)
 
--- the cells of c's queue hold what it means
+-- The places of c's queue have the pairs that the tables have.
 pub held : (d : Detector) (c : ℕ) → Valid d → c < 16 → (let q = getD (d .condvars .«cv_waiters») c blankQueue in Holds (q .pairs) (q .len) (queueOf (tables d) c))
 held d c v h = record { queued = v .queues c h; list = sym (queue-at d c) }
 
+-- Returns the start of a walk over a queue.
 abbrev begun : Detector → Woken
 begun d = record { waits = d .waits; woken = d .«cv_woken»; reports = [] }
 
--- the pairs ps were woken, and the queue of c is left with l
+-- An event that wakes the pairs ps and leaves l in the queue of c keeps its promise.
 pub notify-does : (d : Detector) (c : ℕ) (q : Queue) (l ps : List Pair) (a : Awake) (b e : List ℕ) → Valid d → Queued q → pairsOf q ≡ l
     → Wakes a b e (wakeAll (d .«rwlock_readers») (begun d) ps)
     → Does (record { detector = queuedState d c q (d .condvars .«thread_wait_cv») (a .waits) (a .woken); reports = a .reports }) b e (notify (tables d) c ps l)
@@ -286,11 +307,12 @@ notify-does d c q l ps a b e h u f k =
     (queue-does d c q l (d .condvars .«thread_wait_cv») (a .waits) (a .woken) h u f (h .cvWaits) (k .inRange) (a .reports) _ b e (k .count) (k .bytes))
 
 module _ (d : Detector) (c : ℕ) (h : Valid d) (s : c < 16) where
-  -- nobody waits
+  -- The event c1 keeps its promise on an empty queue.
   pub nobody-does : getD (d .condvars .«cv_waiters») c blankQueue .len ≡ 0 → (b : List ℕ) → Does (record { detector = d; reports = 0 }) b b (notifyOne (tables d) c)
   unfolding notifyOne
   nobody-does e b = rw (queue-at d c, e) (record { state = refl; count = refl; bytes = silent-bytes b; valid = h })
 
+  -- The event c1 keeps its promise on any other queue.
   pub first-does : (q : Queue) (a : Awake) (b e : List ℕ)
       → (let o = getD (d .condvars .«cv_waiters») c blankQueue in
       (0 < o .len) → Queued q → pairsOf q ≡ tailOf (pairsOf o)

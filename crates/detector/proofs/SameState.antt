@@ -1,4 +1,4 @@
--- Two valid states that mean the same tables are the same: what an event promises determines its result.
+-- Two valid states with the same tables are the same, so the promise of an event determines its result.
 use mathlib.Core.Path.{_≡_, sym, ap, ap₂, _∙_}
 use mathlib.Core.List.{List, [], map}
 use Prim.Native.Nat.{ℕ, _<_}
@@ -14,7 +14,7 @@ use Rattle.detector.specs.declared.state.Queue.{Queue}
 use Rattle.detector.specs.declared.state.Pair.{Pair}
 use Rattle.detector.specs.declared.state.CvWait.{CvWait}
 
--- the zeros behind a queue's end leave no choice
+-- The places after a queue's end hold 0, so two valid queues with the same pairs are the same.
 module _ (q r : Queue) (v : Queued q) (w : Queued r) (e : pairsOf q ≡ pairsOf r) where
   same-len : q .len ≡ r .len
   same-len =
@@ -30,17 +30,18 @@ module _ (q r : Queue) (v : Queued q) (w : Queued r) (e : pairsOf q ≡ pairsOf 
           sym (getD-take (q .len) (q .pairs) k noPair h)
           ∙ ap (λ (l : List Pair). getD l k noPair) e
           ∙ getD-take (r .len) (r .pairs) k noPair (omega (arith, same-len))
-      go (no h) = v .behind k (omega arith) ∙ sym (w .behind k (omega (arith, same-len)))
+      go (no h) = v .unused k (omega arith) ∙ sym (w .unused k (omega (arith, same-len)))
 
   same-queue : q ≡ r
   same-queue =
       ap₂ (λ (l : List Pair) (n : ℕ). record { pairs = l; len = n })
       (ext-getD noPair (q .pairs) (r .pairs) (v .cells ∙ sym (w .cells)) (λ k h. same-pair k)) same-len
 
+-- Returns the state of these tables.
 abbrev made : Waits → ℕ → List ℕ → List Queue → List CvWait → Detector
 made w n c q t = record { waits = w; «cv_woken» = n; «rwlock_readers» = c; condvars = record { «cv_waiters» = q; «thread_wait_cv» = t } }
 
--- THEOREM. That there are 16 queues is what the type says.
+-- THEOREM. Two valid states with the same tables are the same. That both have 16 queues is what their type says.
 pub same-state : (d f : Detector) → Valid d → Valid f → length (d .condvars .«cv_waiters») ≡ 16 → length (f .condvars .«cv_waiters») ≡ 16
     → tables d ≡ tables f → d ≡ f
 same-state d f v w m n e =

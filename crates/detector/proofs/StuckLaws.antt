@@ -39,8 +39,9 @@ use Rattle.waits.proofs.Masks.{among-upward}
 use Rattle.detector.specs.Tables.{Tables}
 use Rattle.detector.specs.Stuck.{Truly, Stuck, maskOf, trueWaits, found, anyBack, stuckIn, edgeCount}
 
--- ---- a list's mask has what stands in the list
+-- ---- The mask of a list has what stands in the list
 
+-- A number is in a set with i added if it is i or was there.
 has-with : (m i x : ℕ) → has (with m i) x ≡ cond (eqb x i) true (has m x)
 has-with m i x = go (ℕ-discrete x i)
   where
@@ -48,6 +49,7 @@ has-with m i x = go (ℕ-discrete x i)
     go (yes e) = rw (eq-eqb x i e) (bit-has (with m i) x (rw e (bit-with-same m i)))
     go (no n) = rw (ne-eqb x i n) (ap (λ (d : ℕ). eqb d 1) (bit-with-other m i x n))
 
+-- After a whole list was added, a number is in the set if it stands in the list or was there.
 has-fold : (l : List ℕ) (m x : ℕ) → has (foldl with m l) x ≡ cond (among x l) true (has m x)
 unfolding among
 has-fold [] m x = refl
@@ -59,6 +61,7 @@ has-fold (y ∷ l) m x = has-fold l (with m y) x ∙ ap (λ (b : Bool). cond (am
     go false true = refl
     go false false = refl
 
+-- A number is in the mask of a list if it stands in the list.
 pub has-mask : (l : List ℕ) (x : ℕ) → has (maskOf l) x ≡ among x l
 has-mask l x = has-fold l 0 x ∙ rw (bit-zero x) (go (among x l))
   where
@@ -66,11 +69,12 @@ has-mask l x = has-fold l 0 x ∙ rw (bit-zero x) (go (among x l))
     go true = refl
     go false = refl
 
+-- Threads below 32 give a mask of 32 digits.
 mask-lt : (l : List ℕ) (m : ℕ) → m < 2 ^ 32 → ((x : ℕ) → In x l → x < 32) → foldl with m l < 2 ^ 32
 mask-lt [] m h s = h
 mask-lt (y ∷ l) m h s = mask-lt l (with m y) (with-lt 32 m y h (s y (inl refl))) (λ x i. s x (inr i))
 
--- a set is the mask of its own numbers
+-- Masks with the same digits are the same.
 same-digits : (k m n : ℕ) → m < 2 ^ k → n < 2 ^ k → ((i : ℕ) → i < k → bit m i ≡ bit n i) → m ≡ n
 unfolding bit
 same-digits zero m n a b h = omega arith
@@ -90,12 +94,14 @@ same-has m n i e = go (bit-cases m i) (bit-cases n i)
     go (inl p) (inr q) = absurd (false≢true (rw (p, q) at e))
     go (inr p) (inl q) = absurd (false≢true (sym (rw (p, q) at e)))
 
+-- A set is the mask of its own numbers.
 mask-upward : (m : ℕ) → m < 2 ^ 32 → maskOf (upward 32 m) ≡ m
 mask-upward m h =
     same-digits 32 (maskOf (upward 32 m)) m (mask-lt (upward 32 m) 0 (lit< tt) (upward-lt 32 m)) h
     (λ i l. same-has _ m i (has-mask (upward 32 m) i ∙ among-upward m i l))
 
 module _ (os : List ℕ) (m o : ℕ) (h : m < 2 ^ 32) (e : upward 32 m ++ one o ≡ os) where
+  -- The mask of the owners is the mask of the readers, with the last owner added unless that is nobody.
   mask-owners : maskOf os ≡ foldl with m (one o)
   mask-owners = ap maskOf (sym e) ∙ fold-append with (upward 32 m) (one o) 0 ∙ ap (λ (x : ℕ). foldl with x (one o)) (mask-upward m h)
 
@@ -105,15 +111,16 @@ module _ (os : List ℕ) (m o : ℕ) (h : m < 2 ^ 32) (e : upward 32 m ++ one o 
   pub mask-none : 32 ≤ o → m ≡ maskOf os
   mask-none l = sym (mask-owners ∙ rw (le-ltb _ _ l))
 
--- ---- the rows
+-- ---- The rows
 
--- the table l with f below n
+-- Returns the table l with f k at every place k below n.
 abbrev filled : (ℕ → ℕ) → List ℕ → ℕ → List ℕ
 filled f l n = each (λ r t. set r t (f t)) l n
 
 filled-length : (f : ℕ → ℕ) (l : List ℕ) (n : ℕ) → length (filled f l n) ≡ length l
 filled-length f l n = each-keeps (λ (r : List ℕ). length r ≡ length l) _ n l (λ r t i e. length-set r t (f t) ∙ e) refl
 
+-- At every place k below n, f k is read.
 filled-at : (f : ℕ → ℕ) (l : List ℕ) (n : ℕ) → n ≤ length l → (k : ℕ) → k < n → row (filled f l n) k ≡ f k
 unfolding each
 filled-at f l zero h k i = absurd (omega arith)
@@ -123,10 +130,11 @@ filled-at f l (suc n) h k i =
     (λ e. rw e (getD-set-same (filled f l n) n (f n) 0 (omega (arith, filled-length f l n))))
     (last-or k n i)
 
--- the rows below t
+-- Returns the rows of the threads below t, and empty rows for the others.
 abbrev pub rowsBelow : List ℕ → Waits → ℕ → List ℕ
 rowsBelow c w t = filled (λ t. maskOf (blocking c w (intentOf w t))) (replicate 32 0) t
 
+-- A loop over the threads fills the rows one after the other.
 pub rows-none : (c : List ℕ) (w : Waits) → replicate 32 0 ≡ rowsBelow c w 0
 rows-none c w = sym (each-none _ _)
 
@@ -138,15 +146,17 @@ unfolding trueWaits
 rows-all c w = refl
 
 module _ (c : List ℕ) (w : Waits) where
+  -- The owners that block a thread are below 32.
   blocking-lt : (a : Awaits) (x : ℕ) → In x (blocking c w a) → x < 32
   blocking-lt Nothing x i = absurd i
   blocking-lt (For i) x m = owners-lt c w i x m
 
-  -- row t has digit u exactly when t truly waits for u
+  -- Row t has u exactly when t truly waits for u.
   pub row-waits : (t u : ℕ) → t < 32 → has (row (trueWaits c w) t) u ≡ waitsFor c w t u
   unfolding trueWaits waitsFor
   row-waits t u h = rw (filled-at (λ t. maskOf (blocking c w (intentOf w t))) (replicate 32 0) 32 (omega arith) t h) (has-mask (blocking c w (intentOf w t)) u)
 
+  -- Every row is a set of threads below 32.
   pub rows-narrow : (i : ℕ) → row (trueWaits c w) i < 2 ^ 32
   unfolding trueWaits
   rows-narrow =
@@ -159,9 +169,10 @@ module _ (c : List ℕ) (w : Waits) where
       zeros (suc n) zero = lit< tt
       zeros (suc n) (suc i) = zeros n i
 
--- ---- the search
+-- ---- The search
 
 module _ (rows : List ℕ) (t : ℕ) where
+  -- `anyBack` is true exactly when there is a path to t from one of the threads.
   back-found : (us : List ℕ) → anyBack rows t us ≡ true → (u : ℕ) × In u us × (found (findPath rows u t) ≡ true)
   unfolding anyBack
   back-found [] e = absurd (false≢true e)
@@ -182,7 +193,7 @@ module _ (rows : List ℕ) (t : ℕ) where
       go true r = refl
       go false r = r
 
--- the code's answer
+-- The way of the code's result says whether there is a path.
 pub way-yes : (o : Option (List ℕ)) → soughtOf o .way ≡ Found → true ≡ found o
 way-yes none e = let z : _≡_ {A = ℕ} 0 1 = cc in absurd (omega arith)
 way-yes (some p) e = refl
@@ -191,7 +202,7 @@ pub way-no : (o : Option (List ℕ)) → soughtOf o .way ≡ Missing → false �
 way-no none e = refl
 way-no (some p) e = let z : _≡_ {A = ℕ} 0 1 = cc in absurd (omega arith)
 
--- a walk over a set
+-- A walk over a set ends at the first thread with a path to t, goes on at one without, and ends with false at the end.
 pub back-some : (rows : List ℕ) (t m : ℕ) → 0 < m → m < 2 ^ 32 → found (findPath rows (lowest 32 m) t) ≡ true → true ≡ anyBack rows t (upward 32 m)
 unfolding anyBack
 back-some rows t m p h e = rw (upward-step 32 m p h, e)
@@ -205,8 +216,9 @@ pub back-none : (rows : List ℕ) (t m : ℕ) → m ≡ 0 → false ≡ anyBack 
 unfolding anyBack
 back-none rows t m e = rw (e, upward-zero 32 0)
 
--- ---- counting
+-- ---- Counting
 
+-- The count rises by one for each number for which f is true.
 pub those-more : (f : ℕ → Bool) (n : ℕ) → f n ≡ true → length (those f n) + 1 ≡ length (those f (n + 1))
 unfolding those
 those-more f n e = rw (add-one n, e, length-append)
@@ -219,10 +231,11 @@ pub those-none : (f : ℕ → Bool) → 0 ≡ length (those f 0)
 unfolding those
 those-none f = refl
 
--- the edges of the rows below t
+-- Returns how many edges the rows below t have.
 abbrev pub edgesBelow : List ℕ → ℕ → ℕ
 edgesBelow rows t = each (λ n t. n + ones (row rows t)) 0 t
 
+-- A loop over the rows adds the edges of one after the other.
 pub edges-none : (rows : List ℕ) → 0 ≡ edgesBelow rows 0
 edges-none rows = sym (each-none _ _)
 
@@ -236,20 +249,23 @@ edges-all rows = refl
 -- ---- THEOREM: the search finds exactly the stuck threads
 
 module _ (x : Tables) where
+  -- Returns the rows of true waits.
   abbrev rows : List ℕ
   rows = trueWaits (x .«rwlock_readers») (x .waits)
 
+  -- The edges of the rows are the true waits of the 32 threads.
   edge-truly : (a b : ℕ) → a < 32 → Edge rows a b → Truly x a b
   edge-truly a b h e = sym (row-waits (x .«rwlock_readers») (x .waits) a b h) ∙ bit-has (row rows a) b e
 
   truly-edge : (a b : ℕ) → a < 32 → Truly x a b → Edge rows a b
   truly-edge a b h e = has-bit (row rows a) b (row-waits (x .«rwlock_readers») (x .waits) a b h ∙ e)
 
+  -- A thread that somebody truly waits for is below 32.
   truly-lt : (a b : ℕ) → Truly x a b → b < 32
   unfolding waitsFor
   truly-lt a b e = blocking-lt (x .«rwlock_readers») (x .waits) (intentOf (x .waits) a) b (among-in b _ e)
 
-  -- a walk of true waits from a thread stays among the 32 rows
+  -- A walk of true waits from one of the 32 threads is a walk in the rows, and the other way round.
   walk-rows : {a b : ℕ} → Walk (Truly x) a b → a < 32 → Walk (Edge rows) a b
   walk-rows (stop e) h = stop e
   walk-rows (step {a} {c} e w) h = step (truly-edge a c h e) (walk-rows w (truly-lt a c e))
@@ -258,6 +274,7 @@ module _ (x : Tables) where
   rows-walk (stop e) h = stop e
   rows-walk (step {a} {c} e w) h = let k = edge-truly a c h e in step k (rows-walk w (truly-lt a c k))
 
+  -- A path that is found is a walk.
   found-walk : (u t : ℕ) → u < 32 → found (findPath rows u t) ≡ true → Walk (Edge rows) u t
   found-walk u t h = go (findPath rows u t) refl
     where
@@ -265,6 +282,7 @@ module _ (x : Tables) where
       go none e f = absurd (false≢true f)
       go (some p) e f = leads-walk (Edge rows) u t p (path-found rows (rows-narrow (x .«rwlock_readers») (x .waits)) u t h p e .leads)
 
+  -- The search finds t exactly when t is stuck.
   pub stuck-meaning : (t : ℕ) → t < 32 → (stuckIn rows t ≡ true) ↔ Stuck x t
   stuck-meaning t h = (out, back)
     where
@@ -286,11 +304,12 @@ module _ (x : Tables) where
           let p = way-found rows (rows-narrow (x .«rwlock_readers») (x .waits)) u t l (walk-rows (s .back) l) in
           found-back rows t (upward 32 (row rows t)) u (digit-upward 32 (row rows t) u l (truly-edge t u h (s .waits))) (ap found (p .1))
 
+  -- A walk of true waits from one of the 32 threads ends at one of them.
   walk-lt : {a b : ℕ} → Walk (Truly x) a b → a < 32 → b < 32
   walk-lt (stop e) h = omega arith
   walk-lt (step {a} {c} e w) h = walk-lt w (truly-lt a c e)
 
-  -- so what is counted are the stuck threads, each once, and no thread outside the 32 is stuck
+  -- So the threads that are counted are the stuck threads, each once, and no thread above 31 is stuck.
   pub stuck-listed : (t : ℕ) → In t (those (stuckIn rows) 32) ↔ Stuck x t
   stuck-listed t = (out, back)
     where

@@ -1,4 +1,4 @@
--- The test of a lent state is true exactly where the state is valid.
+-- The test of a lent state is true exactly when the state is valid.
 use mathlib.Core.Path.{_≡_, refl, sym, ap, ap₂, _∙_, subst}
 use mathlib.Core.List.{List, map}
 use mathlib.Core.Bool.{true}
@@ -21,7 +21,7 @@ use Rattle.detector.specs.declared.state.Queue.{Queue}
 use Rattle.detector.specs.declared.state.CvWait.{CvWait}
 use Rattle.detector.specs.declared.state.Detector.{Detector}
 
--- what holds of the n entries of a table, and of what a read outside it gives, holds of every read
+-- What is true of the n places of a table, and of what is read outside it, is true of every read.
 pub everywhere : {A : Type 0} (P : A → Type 0) (l : List A) (d : A) (n : ℕ) → length l ≡ n → P d → ((k : ℕ) → k < n → P (getD l k d)) → (k : ℕ) → P (getD l k d)
 everywhere P l d n e p h k = go (decLt k n)
   where
@@ -29,9 +29,10 @@ everywhere P l d n e p h k = go (decLt k n)
     go (yes i) = h k i
     go (no i) = subst P (sym (List·getD-eq-default l d (omega (arith, e)))) p
 
--- ---- the tables of the waits
+-- ---- The tables of the waits
 
 module _ (w : Waits) where
+  -- Waits in range pass the test, and waits that pass it are in range.
   pub range-tested : InRange w → rangeTest w ≡ true
   unfolding rangeTest
   range-tested r =
@@ -58,21 +59,23 @@ module _ (w : Waits) where
             (λ l h. at-most _ (every-at (λ l. ltb (writerOf w l) 33) 64 (q .1) l h));
       }
 
--- ---- a place of a queue of n pairs
+-- ---- A place of a queue of n pairs
 
+-- States that the pair p may stand at the place k of a queue of n pairs.
 pub record Placed (n k : ℕ) (p : Pair) : Type 0 where
   pub thread : p .thread < 32
   pub lock : p .lock < 64
-  pub behind : n ≤ k → p ≡ noPair
+  pub unused : n ≤ k → p ≡ noPair
 
 module _ (n k : ℕ) (p : Pair) where
+  -- Such a pair passes the test, and a pair that passes it is such a pair.
   place-tested : Placed n k p → placeTest n k p ≡ true
   place-tested h = go (decLt k n)
     where
       go : Dec (k < n) → placeTest n k p ≡ true
       go (yes i) = rw (lt-ltb _ _ i, lt-ltb _ _ (h .thread), lt-ltb _ _ (h .lock))
       go (no i) =
-          let e = h .behind (omega arith) in
+          let e = h .unused (omega arith) in
           rw (le-ltb k n (omega arith), eq-eqb _ _ (ap (λ (x : Pair). x .thread) e), eq-eqb _ _ (ap (λ (x : Pair). x .lock) e))
 
   tested-place : placeTest n k p ≡ true → Placed n k p
@@ -81,22 +84,23 @@ module _ (n k : ℕ) (p : Pair) where
       go : Dec (k < n) → Placed n k p
       go (yes i) =
           let q = both _ _ (rw (lt-ltb _ _ i) at e) in
-          record { thread = ltb-true _ _ (q .0); lock = ltb-true _ _ (q .1); behind = λ j. absurd (omega arith) }
+          record { thread = ltb-true _ _ (q .0); lock = ltb-true _ _ (q .1); unused = λ j. absurd (omega arith) }
       go (no i) =
           let q = both _ _ (rw (le-ltb k n (omega arith)) at e) in
           let t : p .thread ≡ 0 = eqb-true _ _ (q .0) in
           let l : p .lock ≡ 0 = eqb-true _ _ (q .1) in
-          record { thread = omega arith; lock = omega arith; behind = λ j. ap₂ (λ (x y : ℕ). record { thread = x; lock = y }) t l }
+          record { thread = omega arith; lock = omega arith; unused = λ j. ap₂ (λ (x y : ℕ). record { thread = x; lock = y }) t l }
 
--- ---- a queue
+-- ---- A queue
 
 module _ (q : Queue) where
+  -- A valid queue passes the test, and a queue that passes it is valid.
   pub queue-tested : Queued q → queueTest q ≡ true
   unfolding queueTest
   queue-tested h =
       let n = h .long in
       rw (lt-ltb (q .len) 33 (omega arith))
-      (every-of _ 32 (λ k i. place-tested (q .len) k _ (record { thread = h .threads k; lock = h .locks k; behind = h .behind k })))
+      (every-of _ 32 (λ k i. place-tested (q .len) k _ (record { thread = h .threads k; lock = h .locks k; unused = h .unused k })))
 
   pub tested-queue : length (q .pairs) ≡ 32 → queueTest q ≡ true → Queued q
   unfolding queueTest
@@ -109,16 +113,17 @@ module _ (q : Queue) where
         cells = c;
         threads = everywhere (λ (x : Pair). x .thread < 32) (q .pairs) noPair 32 c (lit< tt) (λ k i. at k i .thread);
         locks = everywhere (λ (x : Pair). x .lock < 64) (q .pairs) noPair 32 c (lit< tt) (λ k i. at k i .lock);
-        behind = λ k j. past k j at (decLt k 32);
+        unused = λ k j. past k j at (decLt k 32);
       }
     where
       past : (k : ℕ) → q .len ≤ k → ((k : ℕ) → k < 32 → Placed (q .len) k (getD (q .pairs) k noPair)) → Dec (k < 32) → getD (q .pairs) k noPair ≡ noPair
-      past k j at (yes i) = at k i .behind j
+      past k j at (yes i) = at k i .unused j
       past k j at (no i) = List·getD-eq-default (q .pairs) noPair (omega (arith, c))
 
--- ---- a wait on a condvar
+-- ---- A cv wait
 
 module _ (v : CvWait) where
+  -- A valid cv wait passes the test, and one that passes it is valid.
   cv-wait-tested : ValidCvWait v → cvWaitTest v ≡ true
   cv-wait-tested h = go (ℕ-discrete (v .condvar) 16)
     where
@@ -140,7 +145,7 @@ module _ (v : CvWait) where
 
 -- ---- THEOREMS
 
--- what the types say of a state's tables
+-- States what the types say of the length of a state's tables.
 pub record Shaped (d : Detector) : Type 0 where
   pub intents : length (d .waits .«thread_waits_for») ≡ 32
   pub owners : length (d .waits .«mutex_owners») ≡ 64
@@ -149,6 +154,7 @@ pub record Shaped (d : Detector) : Type 0 where
   pub cells : (c : ℕ) → c < 16 → length (getD (d .condvars .«cv_waiters») c blankQueue .pairs) ≡ 32
 
 module _ (d : Detector) where
+  -- A valid state passes the test, and a state that passes it is valid if its tables are as long as their types say.
   pub valid-tested : Valid d → validTest d ≡ true
   unfolding validTest
   valid-tested v =
@@ -168,6 +174,6 @@ module _ (d : Detector) where
             (λ t h. tested-cv-wait _ (every-at (λ t. cvWaitTest (getD (d .condvars .«thread_wait_cv») t blankCvWait)) 32 (q .1) t h));
       }
 
--- the length of a field that is an array of structs, from what is known of its list
+-- The length of a table of structs follows from the length of the list made from it.
 pub unmapped : (X Y : Type 0) (f : X → Y) (l : List X) (n : ℕ) → length (map f l) ≡ n → length l ≡ n
 unmapped X Y f l n e = sym (length-map l f) ∙ e

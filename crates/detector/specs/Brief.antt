@@ -12,7 +12,7 @@ use Rattle.detector.specs.declared.event.Event.{Event}
 use Rattle.detector.specs.declared.event.Event.the-variants.{MutexAttempt, MutexAcquired, MutexReleased, MutexExit, RwReadAttempt, RwReadAcquired, RwReadTry, RwReadReleased, RwWriteAttempt, RwWriteAcquired, RwWriteReleased, RwExit, CondvarSpawn, CondvarExit, CondvarWaitBegin, CondvarNotifyOne, CondvarNotifyAll, CondvarWaitEnd}
 use Rattle.detector.specs.declared.state.Detector.{Detector}
 
--- ca gives at most 32 reports, ma, mc, ra, wa, wc and c1 at most one, the others none
+-- Returns the most reports that an event can give: 32 for ca, 1 for c1, ma, mc, ra, wa and wc, and 0 for the others.
 abbrev pub most : Event → ℕ
 most (MutexAttempt t l o) = 1
 most (MutexAcquired t l) = 1
@@ -33,17 +33,20 @@ most (CondvarNotifyOne c) = 1
 most (CondvarNotifyAll c) = PLACES
 most (CondvarWaitEnd t c l) = 0
 
--- so few reports, and 2,080 bytes always suffice
+-- States that the reports of an event are no more than that, and that a buffer of 2,080 bytes has room for them.
 pub record Brief (e : Event) (rs : List Report) : Type 0 where
   pub few : length rs ≤ most e
   pub room : length (written rs) ≤ bufferBytes
 
--- THE THEOREMS (`all-brief`, `valid-brief`): wherever no queue is longer than 32, so in every valid state of the code
+-- THE THEOREMS
+-- States that no queue has more than 32 pairs.
 abbrev pub ShortQueues : Tables → Type 0
 ShortQueues x = (c : ℕ) → c < CONDVARS → length (queueOf x c) ≤ PLACES
 
+-- States that reports are few and have room wherever the queues are short (theorem `all-brief`).
 abbrev pub AllBrief : Type 0
 AllBrief = (x : Tables) (room : ℕ) (e : Event) → ShortQueues x → Brief e (effect x room e .reports)
 
+-- States the same of every valid state of the code (theorem `valid-brief`).
 abbrev pub ValidBrief : Type 0
 ValidBrief = (d : Detector) (room : ℕ) (e : Event) → Valid d → Brief e (effect (tables d) room e .reports)

@@ -1,4 +1,4 @@
--- The detector of document 01: its tables, its events, its refusals.
+-- The detector: its tables, the rules of its events, the refusals, and what the calls promise.
 pub mod Limits
 pub mod Tables
 pub mod Mutex

@@ -24,15 +24,15 @@ use Rattle.detector.specs.declared.reply.Count.the-variants.{Threads}
 use Rattle.detector.specs.declared.reply.Reply.{Reply}
 use Rattle.detector.specs.declared.reply.Reply.the-variants.{Reports, Refused}
 
--- AN EVENT'S PROMISE: the state means the rule's tables and stays valid; the number of reports; every byte of the
--- buffer, b before and e after
+-- AN EVENT'S PROMISE. States that the state after the event is valid and has the tables of its effect, and that the
+-- number of reports and every byte of the buffer are those of its effect. The buffer is b before and e after.
 pub record Does (r : Done) (b e : List ℕ) (a : Effect) : Type 0 where
   pub state : tables (r .detector) ≡ a .tables
   pub count : r .reports ≡ length (a .reports)
   pub bytes : e ≡ laid b 0 (written (a .reports))
   pub valid : Valid (r .detector)
 
--- a walk over a queue
+-- States the same of a walk over a queue: its tables, woken threads and reports so far.
 pub record Wakes (r : Awake) (b e : List ℕ) (s : Woken) : Type 0 where
   pub waits : r .waits ≡ s .waits
   pub woken : r .woken ≡ s .woken
@@ -41,31 +41,32 @@ pub record Wakes (r : Awake) (b e : List ℕ) (s : Woken) : Type 0 where
   pub used : r .used ≡ length (written (s .reports))
   pub inRange : InRange (r .waits)
 
--- REFUSALS 2 to 8 of a step, lowest first; 0 for none
+-- REFUSALS 2 TO 8. Returns the lowest refusal of a step, 2 if the state is not valid, or 0 if the event is accepted.
 unfoldable pub refusalOf : Detector → ℕ → Event → ℕ
 refusalOf d room e = cond (validTest d) (refusal (tables d) room e) 2
 
--- the stuck threads of any state, or refusal 2
+-- Returns how many threads are stuck, or refusal 2 if the state is not valid.
 abbrev pub stuckOf : Detector → Count
 stuckOf d = cond (validTest d) (Threads (stuckCount (tables d))) (count.Refused 2)
 
--- a reply's case: document 01's refusal number, 0 where it is served; and the number of reports
+-- Returns the number of the refusal, or 0 if the event was served.
 abbrev pub refusedBy : Reply → ℕ
 refusedBy (Reports n) = 0
 refusedBy (Refused k) = k
 
+-- Returns the number of reports, or 0 if the event was refused.
 abbrev pub reportsOf : Reply → ℕ
 reportsOf (Reports n) = n
 reportsOf (Refused k) = 0
 
--- what an answer with refusal number n says: a refusal gives its number and the same state and writes nothing; an
--- accepted event is served by its rule
+-- States what a step returns if its refusal is n. If n is above 0, that is the refusal n, and the state and the buffer
+-- are as they were. If n is 0, it is the effect of the event's rule, with the number of reports as the reply.
 pub record Replies (n : ℕ) (d : Detector) (ev : Event) (r : Stepped) (b e : List ℕ) : Type 0 where
   pub refused : (0 < n) → (r ≡ record { detector = d; reply = Refused n }) × (e ≡ b)
   pub served : (n ≡ 0)
       → (r .reply ≡ Reports (length (apply ev (tables d) .reports)))
       × Does (record { detector = r .detector; reports = length (apply ev (tables d) .reports) }) b e (apply ev (tables d))
 
--- A STEP'S PROMISE, for any state, any event and any buffer
+-- A STEP'S PROMISE. States what a step returns in any state, for any event and any buffer.
 abbrev pub Steps : Detector → Event → Stepped → List ℕ → List ℕ → Type 0
 Steps d ev r b e = Replies (refusalOf d (length b) ev) d ev r b e

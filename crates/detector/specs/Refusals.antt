@@ -1,4 +1,4 @@
--- REFUSALS 3 to 8, lowest number first; 0 for none.
+-- REFUSALS 3 TO 8 of an event. The lowest number is given, and 0 stands for none.
 use mathlib.Core.Bool.{cond}
 use Prim.Native.Nat.{ℕ, _*_, _<_, _≤_}
 use lib.Dec.{ltb, eqb}
@@ -15,21 +15,25 @@ use Rattle.detector.specs.Tables.{Tables, queueOf}
 use Rattle.detector.specs.declared.event.Event.{Event}
 use Rattle.detector.specs.declared.event.Event.the-variants.{MutexAttempt, MutexAcquired, MutexReleased, MutexExit, RwReadAttempt, RwReadAcquired, RwReadTry, RwReadReleased, RwWriteAttempt, RwWriteAcquired, RwWriteReleased, RwExit, CondvarSpawn, CondvarExit, CondvarWaitBegin, CondvarNotifyOne, CondvarNotifyAll, CondvarWaitEnd}
 
--- THE NUMBERS OF AN EVENT, 0 where it has none
+-- THE NUMBERS OF AN EVENT
+-- Returns the thread that a hint names, or 0 if there is no hint.
 abbrev pub hintOf : Outcome → ℕ
 hintOf Took = 0
 hintOf Blocked = 0
 hintOf (Hinted o) = o
 
+-- The numbers of an event. Those that it does not have are 0.
 pub record Numbers : Type 0 where
   pub thread : ℕ
   pub hint : ℕ
   pub lock : ℕ
   pub condvar : ℕ
 
+-- Returns these four numbers as those of an event.
 abbrev pub numbers : ℕ → ℕ → ℕ → ℕ → Numbers
 numbers t h l c = record { thread = t; hint = h; lock = l; condvar = c }
 
+-- Returns the numbers of an event.
 abbrev pub numbersOf : Event → Numbers
 numbersOf (MutexAttempt t l o) = numbers t (hintOf o) l 0
 numbersOf (MutexAcquired t l) = numbers t 0 l 0
@@ -50,11 +54,12 @@ numbersOf (CondvarNotifyOne c) = numbers 0 0 0 c
 numbersOf (CondvarNotifyAll c) = numbers 0 0 0 c
 numbersOf (CondvarWaitEnd t c l) = numbers t 0 l c
 
--- 2,080: room for 32 reports
+-- The bytes that the buffer must have, 2,080: room for 32 of the longest reports.
 abbrev pub bufferBytes : ℕ
 bufferBytes = PLACES * reportBytes
 
--- 3 thread or hint above 31; 4 lock above 63; 5 condvar above 15; 6 report buffer below 2,080 bytes; else the next
+-- Returns 3 if the thread or the hint is above 31, else 4 if the lock is above 63, else 5 if the condvar is above 15,
+-- else 6 if the room in the buffer is below 2,080 bytes, else `next`.
 unfoldable pub outside : Numbers → ℕ → ℕ → ℕ
 outside n room next =
     cond (ltb 31 (n .thread)) 3
@@ -63,22 +68,26 @@ outside n room next =
     (cond (ltb 15 (n .condvar)) 5
     (cond (ltb room bufferBytes) 6 next))))
 
--- 7 cb on a queue of 32; 8 ra, rc or rt taken at count 255
+-- Returns 7 if the queue of c is full, or 0.
 abbrev pub fullQueue : Tables → ℕ → ℕ
 fullQueue x c = cond (ltb (length (queueOf x c)) PLACES) 0 7
 
+-- Returns 8 if t's count for l is at its limit of 255, or 0.
 abbrev pub fullCount : Tables → ℕ → ℕ → ℕ
 fullCount x t l = cond (eqb (countOf (x .«rwlock_readers») t l) 255) 8 0
 
+-- Returns 8 if the attempt took the lock and t's count for l is at its limit, or 0.
 abbrev pub fullAttempt : Tables → ℕ → ℕ → Outcome → ℕ
 fullAttempt x t l Took = fullCount x t l
 fullAttempt x t l Blocked = 0
 fullAttempt x t l (Hinted o) = 0
 
+-- Returns 8 if the try took the lock and t's count for l is at its limit, or 0.
 abbrev pub fullTry : Tables → ℕ → ℕ → Tried → ℕ
 fullTry x t l Taken = fullCount x t l
 fullTry x t l Missed = 0
 
+-- Returns 7 or 8 if the event needs room in a queue or in a count that is full, or 0.
 abbrev pub full : Tables → Event → ℕ
 full x (RwReadAttempt t l o) = fullAttempt x t l o
 full x (RwReadAcquired t l) = fullCount x t l
@@ -99,10 +108,11 @@ full x (CondvarNotifyOne c) = 0
 full x (CondvarNotifyAll c) = 0
 full x (CondvarWaitEnd t c l) = 0
 
+-- Returns the lowest refusal that the event gets with a buffer of room bytes, or 0 if it is accepted.
 unfoldable pub refusal : Tables → ℕ → Event → ℕ
 refusal x room e = outside (numbersOf e) room (full x e)
 
--- the numbers of an accepted event lie inside
+-- States that the numbers of an event are in range, and that a buffer of this size is large enough.
 pub record Inside (n : Numbers) (size : ℕ) : Type 0 where
   pub thread : n .thread < THREADS
   pub hint : n .hint < THREADS

@@ -1,4 +1,4 @@
--- THE TABLES, and what an event answers.
+-- THE TABLES, and the effect of an event on them.
 use mathlib.Core.List.{List, []}
 use Prim.Native.Nat.{ℕ}
 use lib.ListN.{getD, set, replicate}
@@ -11,6 +11,7 @@ use Rattle.waits.specs.declared.tables.Waits.{Waits}
 use Rattle.detector.specs.declared.state.Pair.{Pair}
 use Rattle.detector.specs.declared.state.CvWait.{CvWait}
 
+-- All tables: the waits, the reader counts, each condvar's queue, each thread's cv wait, and the woken threads.
 pub record Tables : Type 0 where
   pub waits : Waits
   pub «rwlock_readers» : List ℕ
@@ -18,18 +19,19 @@ pub record Tables : Type 0 where
   pub «thread_wait_cv» : List CvWait
   pub «cv_woken» : ℕ
 
--- no pair; no wait, whose condvar is 16
+-- Stands at the places of a queue that are not in use.
 abbrev pub noPair : Pair
 noPair = record { thread = 0; lock = 0 }
 
+-- Stands for no cv wait.
 abbrev pub noCvWait : CvWait
 noCvWait = record { condvar = NONE; lock = 0 }
 
--- what a read outside the table would give
+-- Stands for what is read outside the table of cv waits.
 abbrev pub blankCvWait : CvWait
 blankCvWait = record { condvar = 0; lock = 0 }
 
--- nothing present anywhere
+-- Returns the empty tables: empty waits, counts of 0, empty queues, no cv waits, and no thread woken.
 abbrev pub empty : Tables
 empty =
     record {
@@ -40,11 +42,12 @@ empty =
       «cv_woken» = 0;
     }
 
--- the pairs in condvar c's queue, in order
+-- Returns the pairs in the queue of condvar c, in order.
 abbrev pub queueOf : Tables → ℕ → List Pair
 queueOf x c = getD (x .«cv_waiters») c []
 
 -- WRITING
+-- Returns the tables with other waits.
 abbrev pub withWaits : Tables → Waits → Tables
 withWaits x w =
     record {
@@ -55,7 +58,7 @@ withWaits x w =
       «cv_woken» = x .«cv_woken»;
     }
 
--- with other waits and other counts
+-- Returns the tables with other waits and other counts.
 abbrev pub withCounts : Tables → Waits → List ℕ → Tables
 withCounts x w counts =
     record {
@@ -66,7 +69,7 @@ withCounts x w counts =
       «cv_woken» = x .«cv_woken»;
     }
 
--- the queue of c is q, and the waits on condvars are v
+-- Returns the tables with q as the queue of c, and with v as the cv waits.
 abbrev pub withQueue : Tables → ℕ → List Pair → List CvWait → Tables
 withQueue x c q v =
     record {
@@ -77,6 +80,7 @@ withQueue x c q v =
       «cv_woken» = x .«cv_woken»;
     }
 
+-- Returns the tables with other waits, and with m as the woken threads.
 abbrev pub withWoken : Tables → Waits → ℕ → Tables
 withWoken x w m =
     record {
@@ -87,13 +91,15 @@ withWoken x w m =
       «cv_woken» = m;
     }
 
--- AN ANSWER: the tables after the event, and its reports in order, each with the tables of its last validation
+-- EFFECT. The tables after an event, and its reports in order, each with the tables in which it was last validated.
 pub record Effect : Type 0 where
   pub tables : Tables
   pub reports : List Report
 
+-- Returns the effect that has these tables and no report.
 abbrev pub silent : Tables → Effect
 silent x = record { tables = x; reports = [] }
 
+-- Returns the effect of judging a path: the tables with its waits, and its reports.
 abbrev pub withJudging : Tables → Judging → Effect
 withJudging x a = record { tables = withWaits x (a .waits); reports = a .reports }

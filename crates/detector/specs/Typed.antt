@@ -1,5 +1,5 @@
--- WHAT THE CODE'S TYPES HOLD of a state, valid or not: how long its tables are, and how large a number of each can be.
--- Of every state of the code it is proved: `typed` (src/types.rt).
+-- WHAT THE CODE'S TYPES SAY of a state, valid or not: how long its tables are, and how large their numbers can be. That
+-- every state of the code is so is proved by `typed` (src/types.rt).
 use mathlib.Core.Path.{_≡_}
 use mathlib.Core.List.{List}
 use Prim.Native.Nat.{ℕ, _<_, _^_}
@@ -14,23 +14,24 @@ use Rattle.detector.specs.declared.state.Detector.{Detector}
 use Rattle.detector.specs.declared.state.Queue.{Queue}
 use Rattle.detector.specs.declared.state.CvWait.{CvWait}
 
--- n numbers, each below max: [u8; n], [u32; n], [u64; n]
+-- States that l has n numbers, each below max, as [u8; n], [u32; n] and [u64; n] have.
 pub record Table (l : List ℕ) (n max : ℕ) : Type 0 where
   pub long : length l ≡ n
   pub small : (i : ℕ) → getD l i 0 < max
 
--- 32 pairs of bytes, and a byte
+-- States that a queue is 32 pairs of bytes, and a byte for its length.
 pub record TypedQueue (q : Queue) : Type 0 where
   pub long : length (q .pairs) ≡ PLACES
   pub threads : (k : ℕ) → getD (q .pairs) k noPair .thread < 256
   pub locks : (k : ℕ) → getD (q .pairs) k noPair .lock < 256
   pub len : q .len < 256
 
--- two bytes
+-- States that a cv wait is two bytes.
 pub record TypedCvWait (v : CvWait) : Type 0 where
   pub condvar : v .condvar < 256
   pub lock : v .lock < 256
 
+-- States what the types say of a state.
 pub record Typed (d : Detector) : Type 0 where
   pub edges : Table (d .waits .«wait_for_graph» .edges) THREADS (2 ^ 32)
   pub incoming : Table (d .waits .«wait_for_graph» .«incoming_edges») THREADS (2 ^ 32)

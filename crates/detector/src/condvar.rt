@@ -22,7 +22,7 @@ use sets::threads;
 use waits::WaitMode;
 use waits::Waits;
 
-// A walk over a queue: the tables so far, the reports, and the place behind them in the buffer.
+// A walk over a queue: the tables and woken threads so far, the number of reports, and the place after them.
 pub struct Awake {
     pub waits: Waits,
     pub woken: u32,
@@ -30,6 +30,7 @@ pub struct Awake {
     pub used: usize,
 }
 
+// Returns the empty queue, with 0 at every place.
 fn empty_queue() -> Queue
     ensures { λ r. ⌜ r ≡ emptyQueue ⌝ }
 {
@@ -39,7 +40,8 @@ fn empty_queue() -> Queue
     }
 }
 
-// One pair treated: woken, and where its lock has an owner the attempt that follows.
+// Wakes the thread of one pair: marks it as woken and, if the pair's lock has a mutex owner, registers its intent for
+// the mutex and judges the path. Adds a report to those so far if there is one.
 fn wake_one(a: Awake, counts: &[u8; Waits::COUNTS], p: Pair, buf: &mut [u8]) -> Awake
     requires { ⌜ InRange (a .waits) × (p .thread < THREADS) × (p .lock < LOCKS) × (a .used + reportBytes ≤ length (now buf)) × (a .reports < PLACES) ⌝ }
     ensures { λ r. ⌜ ((b : List ℕ) (s : Woken) → Wakes a b (now (buf .entry)) s → Wakes r b (now (buf .exit)) (wake (now (counts .entry)) s p)) × (r .used ≤ a .used + reportBytes) × (r .reports ≤ a .reports + 1) × InRange (r .waits) ⌝ }
@@ -68,6 +70,7 @@ fn wake_one(a: Awake, counts: &[u8; Waits::COUNTS], p: Pair, buf: &mut [u8]) -> 
     }
 }
 
+// Wakes the thread of each pair of the queue, in order.
 fn wake_all(a0: Awake, counts: &[u8; Waits::COUNTS], q: Queue, buf: &mut [u8]) -> Awake
     requires { ⌜ InRange (a0 .waits) × Queued q × (a0 .used ≡ 0) × (a0 .reports ≡ 0) × (bufferBytes ≤ length (now buf)) ⌝ }
     ensures { λ r. ⌜ ((s : Woken) → Wakes a0 (now (buf .entry)) (now (buf .entry)) s → Wakes r (now (buf .entry)) (now (buf .exit)) (wakeAll (now (counts .entry)) s (pairsOf q))) ⌝ }
@@ -83,7 +86,7 @@ fn wake_all(a0: Awake, counts: &[u8; Waits::COUNTS], q: Queue, buf: &mut [u8]) -
     a
 }
 
-// The queue without its first pair.
+// Returns the queue without its first pair.
 fn popped(q: Queue) -> Queue
     requires { ⌜ Queued q × (0 < q .len) ⌝ }
     ensures { λ r. ⌜ (pairsOf r ≡ tailOf (pairsOf q)) × Queued r ⌝ }
@@ -99,7 +102,7 @@ fn popped(q: Queue) -> Queue
     out
 }
 
-// The queue without every pair (t, l).
+// Returns the queue without the pairs (t, l).
 fn left_by(q: Queue, t: usize, l: usize) -> Queue
     requires { ⌜ Queued q ⌝ }
     ensures { λ r. ⌜ (pairsOf r ≡ leave t l (pairsOf q)) × Queued r ⌝ }
@@ -122,6 +125,7 @@ fn left_by(q: Queue, t: usize, l: usize) -> Queue
     out
 }
 
+// Returns true if p is the pair (t, l).
 fn is_pair(p: Pair, t: usize, l: usize) -> bool
     ensures { λ r. ⌜ r ≡ isPair t l p ⌝ }
 {
@@ -131,7 +135,7 @@ fn is_pair(p: Pair, t: usize, l: usize) -> bool
     false
 }
 
-// No thread waits for c.
+// Returns the cv waits without those for c.
 fn forgotten(all: [CvWait; THREADS], c: usize) -> [CvWait; THREADS]
     ensures { λ r. ⌜ r ≡ forget all c ⌝ }
 {
@@ -151,7 +155,7 @@ fn forgotten(all: [CvWait; THREADS], c: usize) -> [CvWait; THREADS]
 }
 
 impl Detector {
-    // cn
+    // cn: the condvar c is new. Empties its queue and changes nothing else, so the cv waits for c stay.
     pub fn create_condvar(mut self, c: usize) -> Done
         requires { ⌜ Valid self × (c < CONDVARS) ⌝ }
         ensures { λ r. ⌜ ((b : List ℕ) → Does r b b (createCondvar (tables self) c)) ⌝ }
@@ -165,7 +169,8 @@ impl Detector {
         }
     }
 
-    // cd
+    // cd: the condvar c is gone. Empties its queue and removes the cv wait of every thread that waits for c. Leaves
+    // intents, edges and the woken threads.
     pub fn destroy_condvar(mut self, c: usize) -> Done
         requires { ⌜ Valid self × (c < CONDVARS) ⌝ }
         ensures { λ r. ⌜ ((b : List ℕ) → Does r b b (destroyCondvar (tables self) c)) ⌝ }
@@ -182,7 +187,8 @@ impl Detector {
         }
     }
 
-    // cb
+    // cb: t begins to wait for c with the lock l. Puts the pair (t, l) at the end of c's queue, even if the queue has
+    // it already, and sets t's cv wait. Leaves t's holds and l's owner.
     pub fn begin_wait(mut self, t: usize, c: usize, l: usize) -> Done
         requires { ⌜ Valid self × (t < THREADS) × (c < CONDVARS) × (l < LOCKS) × (getD (self .condvars .«cv_waiters») c blankQueue .len < PLACES) ⌝ }
         ensures { λ r. ⌜ ((b : List ℕ) → Does r b b (beginWait (tables self) t c l)) ⌝ }
@@ -207,7 +213,9 @@ impl Detector {
         }
     }
 
-    // c1
+    // c1: c wakes one thread. Takes the first pair (t, l), if any, out of the queue and marks t as woken. If l has a
+    // mutex owner, registers t's intent for the mutex, filters a path that is found, and validates it if it passes.
+    // Leaves t's cv wait and the pairs after the first.
     pub fn notify_one(mut self, c: usize, buf: &mut [u8]) -> Done
         requires { ⌜ Valid self × (c < CONDVARS) × (bufferBytes ≤ length (now buf)) ⌝ }
         ensures { λ r. ⌜ Does r (now (buf .entry)) (now (buf .exit)) (notifyOne (tables self) c) ⌝ }
@@ -242,7 +250,7 @@ impl Detector {
         }
     }
 
-    // ca
+    // ca: c wakes all threads. Empties the queue, then treats each pair in order as c1 does; each may give a report.
     pub fn notify_all(mut self, c: usize, buf: &mut [u8]) -> Done
         requires { ⌜ Valid self × (c < CONDVARS) × (bufferBytes ≤ length (now buf)) ⌝ }
         ensures { λ r. ⌜ Does r (now (buf .entry)) (now (buf .exit)) (notifyAll (tables self) c) ⌝ }
@@ -269,7 +277,8 @@ impl Detector {
         }
     }
 
-    // ce
+    // ce: t ends its wait for c with the lock l. Takes all pairs (t, l) out of c's queue, removes t's cv wait and its
+    // mark as woken, and clears t's intent.
     pub fn end_wait(mut self, t: usize, c: usize, l: usize) -> Done
         requires { ⌜ Valid self × (t < THREADS) × (c < CONDVARS) × (l < LOCKS) ⌝ }
         ensures { λ r. ⌜ ((b : List ℕ) → Does r b b (endWait (tables self) t c l)) ⌝ }

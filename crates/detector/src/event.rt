@@ -1,7 +1,9 @@
-// One case for each of the 18 words; an attempt holds how it came out.
+// An event is one call on a mutex, a readers-writer lock or a condvar, as it is handed to the detector.
 use waits::Outcome;
 use waits::Tried;
 
+// There is a case for each word, in this order: ma mc mr md, ra rc rt rr, wa wc wr rd, cn cd cb c1 ca ce. A case has
+// the fields of its word in the order of a script's line. The last field of an attempt is its outcome.
 pub enum Event {
     MutexAttempt(usize, usize, Outcome),
     MutexAcquired(usize, usize),

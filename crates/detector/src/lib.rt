@@ -1,4 +1,4 @@
-// The detector: its state, the 18 events, the refusals, and the entries.
+// The detector: its state, the 18 events, the refusals, and the step, which takes any state and any event.
 mod condvar;
 mod event;
 mod mutex;

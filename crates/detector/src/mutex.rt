@@ -22,6 +22,7 @@ use waits::Slot;
 use waits::WaitMode;
 use waits::Waits;
 
+// Returns the tables with t, or nobody, as the owner of the mutex l.
 fn owned(mut w: Waits, t: usize, l: usize) -> Waits
     requires { ⌜ InRange w × (l < LOCKS) × (t ≤ NOBODY) ⌝ }
     ensures { λ r. ⌜ (r ≡ own w t l) × InRange r ⌝ }
@@ -30,7 +31,7 @@ fn owned(mut w: Waits, t: usize, l: usize) -> Waits
     w
 }
 
-// l joins t's holds, and t waits for nothing.
+// Adds l to t's holds and clears t's intent.
 pub(crate) fn gained(mut w: Waits, t: usize, l: usize) -> Waits
     requires { ⌜ InRange w × (t < THREADS) × (l < LOCKS) ⌝ }
     ensures { λ r. ⌜ (r ≡ gain w t l) × InRange r ⌝ }
@@ -40,6 +41,7 @@ pub(crate) fn gained(mut w: Waits, t: usize, l: usize) -> Waits
     w.clear_wait_intent(t)
 }
 
+// Returns true if the thread was blocked, with or without a hint.
 pub(crate) fn was_blocked(o: Outcome) -> bool
     ensures { λ r. ⌜ r ≡ wasBlocked o ⌝ }
 {
@@ -50,7 +52,8 @@ pub(crate) fn was_blocked(o: Outcome) -> bool
     }
 }
 
-// The owner, or the writer, after a hint. A number and not the tables, so that the compiler copies none for an outcome.
+// Returns the thread that a hint names, or `before` if there is no hint. It works on a number and not on the tables, so
+// that the compiler copies no table for an outcome.
 pub(crate) fn hinted(before: usize, o: Outcome) -> usize
     requires { ⌜ (before ≤ NOBODY) × (hintOf o < THREADS) ⌝ }
     ensures { λ r. ⌜ (r ≡ hinted before o) × (r ≤ NOBODY) ⌝ }
@@ -62,6 +65,7 @@ pub(crate) fn hinted(before: usize, o: Outcome) -> usize
     }
 }
 
+// Returns true if the intent in the slot names l.
 fn awaits(s: Slot, l: usize) -> bool
     ensures { λ r. ⌜ r ≡ names (s .awaits) l ⌝ }
 {
@@ -73,7 +77,7 @@ fn awaits(s: Slot, l: usize) -> bool
     lock == l
 }
 
-// Every thread whose intent names l waits for nothing.
+// Clears the intent of every thread whose intent names l, in any mode.
 fn cleared(w0: Waits, l: usize) -> Waits
     requires { ⌜ InRange w0 ⌝ }
     ensures { λ r. ⌜ (r ≡ clearNaming w0 l) × InRange r ⌝ }
@@ -91,7 +95,7 @@ fn cleared(w0: Waits, l: usize) -> Waits
     w
 }
 
-// l leaves all holds and loses its waiters.
+// Takes l out of all holds and empties its waiters.
 pub(crate) fn purged(w0: Waits, l: usize) -> Waits
     requires { ⌜ InRange w0 × (l < LOCKS) ⌝ }
     ensures { λ r. ⌜ (r ≡ purge w0 l) × InRange r ⌝ }
@@ -108,7 +112,8 @@ pub(crate) fn purged(w0: Waits, l: usize) -> Waits
 }
 
 impl Detector {
-    // ma
+    // ma: t attempts to take the mutex l, with the outcome o. If t took it, does as mc. If t was blocked, makes the
+    // hinted thread, if any, the owner, registers t's intent, filters a path found, and validates it if it passes.
     pub fn acquire_slow_with_recheck(self, t: usize, l: usize, o: Outcome, buf: &mut [u8]) -> Done
         requires { ⌜ Valid self × (t < THREADS) × (l < LOCKS) × (hintOf o < THREADS) × (bufferBytes ≤ length (now buf)) ⌝ }
         ensures { λ r. ⌜ Does r (now (buf .entry)) (now (buf .exit)) (mutexAttempt (tables self) t l o) ⌝ }
@@ -133,7 +138,8 @@ impl Detector {
         self.with_judged(d)
     }
 
-    // mc
+    // mc: t has the mutex l. Makes t its owner, adds l to t's holds, clears t's intent, refreshes l's waiters, and
+    // validates a path that the refresh finds, without the filter.
     pub fn complete_acquire(self, t: usize, l: usize, buf: &mut [u8]) -> Done
         requires { ⌜ Valid self × (t < THREADS) × (l < LOCKS) × (bufferBytes ≤ length (now buf)) ⌝ }
         ensures { λ r. ⌜ Does r (now (buf .entry)) (now (buf .exit)) (completeAcquire (tables self) t l) ⌝ }
@@ -149,7 +155,8 @@ impl Detector {
         self.with_judged(d)
     }
 
-    // mr
+    // mr: t releases the mutex l. Makes nobody its owner if t was. In any case takes l out of t's holds and refreshes
+    // l's waiters. A path that the refresh finds is dropped, so nothing is reported.
     pub fn release_mutex(self, t: usize, l: usize) -> Done
         requires { ⌜ Valid self × (t < THREADS) × (l < LOCKS) ⌝ }
         ensures { λ r. ⌜ ((b : List ℕ) → Does r b b (releaseMutex (tables self) t l)) ⌝ }
@@ -169,7 +176,8 @@ impl Detector {
         self.with_waits(w, 0)
     }
 
-    // md
+    // md: the mutex l is gone. Makes nobody its owner, clears every intent that names l, takes l out of all holds, and
+    // empties its waiters. Refreshes nothing.
     pub fn destroy_mutex(self, l: usize) -> Done
         requires { ⌜ Valid self × (l < LOCKS) ⌝ }
         ensures { λ r. ⌜ ((b : List ℕ) → Does r b b (destroyMutex (tables self) l)) ⌝ }

@@ -1,4 +1,4 @@
-// The refusals of an event: 3 to 6 by its numbers and the buffer, 7 and 8 by what is full; 0 for none.
+// The refusals of an event: 3 to 6 by its numbers and the buffer, 7 and 8 by what is full, and 0 for none.
 ghost use mathlib.Core.Path.{_≡_};
 ghost use Prim.Native.Nat.{_<_};
 ghost use Rattle.sets.specs.Limits.{THREADS, LOCKS};
@@ -12,6 +12,7 @@ use waits::Outcome;
 use waits::Tried;
 use waits::place;
 
+// Returns the thread that a hint names, or 0 if there is no hint.
 fn hint_of(o: Outcome) -> usize
     ensures { λ r. ⌜ r ≡ hintOf o ⌝ }
 {
@@ -22,6 +23,8 @@ fn hint_of(o: Outcome) -> usize
     }
 }
 
+// Returns 3 if the thread or the hint is out of range, else 4 if the lock is, else 5 if the condvar is, else 6 if the
+// buffer has too little room, else 0.
 fn outside(t: usize, h: usize, l: usize, c: usize, room: usize) -> u8
     ensures { λ r. ⌜ r ≡ outside (numbers t h l c) room 0 ⌝ }
 {
@@ -43,6 +46,8 @@ fn outside(t: usize, h: usize, l: usize, c: usize, room: usize) -> u8
     0
 }
 
+// Returns the refusal of 3 to 6 that the event gets with a buffer of `room` bytes, or 0. A number that the event does
+// not have counts as 0, which is in range.
 fn numbered(e: Event, room: usize) -> u8
     ensures { λ r. ⌜ r ≡ outside (numbersOf e) room 0 ⌝ }
 {
@@ -78,6 +83,7 @@ fn numbered(e: Event, room: usize) -> u8
 }
 
 impl Detector {
+    // Returns 7 if the queue of c is full, or 0.
     fn full_queue(self, c: usize) -> u8
         requires { ⌜ Valid self × (c < CONDVARS) ⌝ }
         ensures { λ r. ⌜ r ≡ fullQueue (tables self) c ⌝ }
@@ -90,6 +96,7 @@ impl Detector {
         7
     }
 
+    // Returns 8 if t's count for l is at its limit of 255, or 0.
     fn full_count(self, t: usize, l: usize) -> u8
         requires { ⌜ (t < THREADS) × (l < LOCKS) ⌝ }
         ensures { λ r. ⌜ r ≡ fullCount (tables self) t l ⌝ }
@@ -102,6 +109,7 @@ impl Detector {
         0
     }
 
+    // Returns 8 if the attempt took the lock and t's count for l is at its limit, or 0.
     fn full_attempt(self, t: usize, l: usize, o: Outcome) -> u8
         requires { ⌜ (t < THREADS) × (l < LOCKS) ⌝ }
         ensures { λ r. ⌜ r ≡ fullAttempt (tables self) t l o ⌝ }
@@ -113,6 +121,7 @@ impl Detector {
         }
     }
 
+    // Returns 8 if the try took the lock and t's count for l is at its limit, or 0.
     fn full_try(self, t: usize, l: usize, o: Tried) -> u8
         requires { ⌜ (t < THREADS) × (l < LOCKS) ⌝ }
         ensures { λ r. ⌜ r ≡ fullTry (tables self) t l o ⌝ }
@@ -123,6 +132,7 @@ impl Detector {
         }
     }
 
+    // Returns 7 or 8 if the event needs room in a queue or in a count that is full, or 0.
     fn full(self, e: Event, room: usize) -> u8
         requires { ⌜ Valid self × Inside (numbersOf e) room ⌝ }
         ensures { λ r. ⌜ r ≡ full (tables self) e ⌝ }
@@ -149,7 +159,7 @@ impl Detector {
         }
     }
 
-    // The refusal of an event by a valid state, lowest number first.
+    // Returns the lowest refusal that the event gets in a valid state with a buffer of `room` bytes, or 0 if none.
     pub fn refusal(self, e: Event, room: usize) -> u8
         requires { ⌜ Valid self ⌝ }
         ensures { λ r. ⌜ r ≡ refusal (tables self) room e ⌝ }

@@ -1,4 +1,4 @@
-// What an event and a step hand back.
+// What an event, a step and a count of threads return.
 use crate::state::Detector;
 
 // The state after an event, and the number of its reports.
@@ -7,18 +7,19 @@ pub struct Done {
     pub reports: usize,
 }
 
+// The reply to a step: the number of reports, or the number of the refusal.
 pub enum Reply {
     Reports(usize),
     Refused(u8),
 }
 
-// A number of threads, where the state is valid.
+// The number of stuck threads, or refusal 2 if the state is not valid.
 pub enum Count {
     Threads(usize),
     Refused(u8),
 }
 
-// The state after a step, and the answer to it.
+// The state after a step, and the reply to it.
 pub struct Stepped {
     pub detector: Detector,
     pub reply: Reply,

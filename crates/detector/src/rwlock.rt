@@ -29,6 +29,7 @@ use waits::counted_up;
 use waits::no_readers;
 use waits::place;
 
+// Returns the tables with t, or nobody, as the writer of l.
 fn written_by(mut w: Waits, t: usize, l: usize) -> Waits
     requires { ⌜ InRange w × (l < LOCKS) × (t ≤ NOBODY) ⌝ }
     ensures { λ r. ⌜ (r ≡ write w t l) × InRange r ⌝ }
@@ -37,6 +38,7 @@ fn written_by(mut w: Waits, t: usize, l: usize) -> Waits
     w
 }
 
+// Makes nobody the writer of l if t was, and takes l out of t's holds.
 fn write_given_up(mut w: Waits, t: usize, l: usize) -> Waits
     requires { ⌜ InRange w × (t < THREADS) × (l < LOCKS) ⌝ }
     ensures { λ r. ⌜ (r ≡ writeReleased w t l) × InRange r ⌝ }
@@ -49,7 +51,7 @@ fn write_given_up(mut w: Waits, t: usize, l: usize) -> Waits
     w
 }
 
-// The graph without the edges from l's waiters to t.
+// Returns the graph without the edges from l's waiters to t.
 fn loosened(w: Waits, t: usize, l: usize) -> WaitForGraph
     requires { ⌜ (t < THREADS) × (l < LOCKS) ⌝ }
     ensures { λ r. ⌜ withGraph w r ≡ loosen w t l ⌝ }
@@ -64,7 +66,8 @@ fn loosened(w: Waits, t: usize, l: usize) -> WaitForGraph
 }
 
 impl Detector {
-    // ra
+    // ra: t attempts to read l, with the outcome o. If t took it, does as rc. If t was blocked, makes the hinted
+    // thread, if any, the writer, registers t's intent to read, and validates a path that is found, without the filter.
     pub fn acquire_read_slow_with_recheck(
         self,
         t: usize,
@@ -91,7 +94,7 @@ impl Detector {
         self.with_counts(w, more)
     }
 
-    // rc
+    // rc: t reads l. Adds one to its count and clears t's intent. Does not refresh l's waiters or add l to t's holds.
     pub fn complete_read(self, t: usize, l: usize) -> Done
         requires { ⌜ Valid self × (t < THREADS) × (l < LOCKS) × (countOf (self .«rwlock_readers») t l ≡ 255 → ⊥) ⌝ }
         ensures { λ r. ⌜ ((b : List ℕ) → Does r b b (completeRead (tables self) t l)) ⌝ }
@@ -103,7 +106,8 @@ impl Detector {
         self.with_counts(w, more)
     }
 
-    // rt
+    // rt: t tries to read l without waiting. If t took it, adds one to its count and refreshes l's waiters; a path is
+    // dropped, and t's intent stays. If t missed it, nothing changes.
     pub fn try_read_nonblocking(self, t: usize, l: usize, o: Tried) -> Done
         requires { ⌜ Valid self × (t < THREADS) × (l < LOCKS) × (fullTry (tables self) t l o ≡ 0) ⌝ }
         ensures { λ r. ⌜ ((b : List ℕ) → Does r b b (readTry (tables self) t l o)) ⌝ }
@@ -120,7 +124,8 @@ impl Detector {
         self.with_counts(w, more)
     }
 
-    // rr
+    // rr: t gives up one read of l. Takes one off its count, or leaves it at 0. If the count is 0 after that, drops the
+    // edges from l's waiters to t. Does not refresh l's waiters.
     pub fn release_read(self, t: usize, l: usize) -> Done
         requires { ⌜ Valid self × (t < THREADS) × (l < LOCKS) ⌝ }
         ensures { λ r. ⌜ ((b : List ℕ) → Does r b b (releaseRead (tables self) t l)) ⌝ }
@@ -136,7 +141,9 @@ impl Detector {
         self.with_counts(w, fewer)
     }
 
-    // wa
+    // wa: t attempts to write l, with the outcome o. If t took it, does as wc. If t was blocked, makes the hinted
+    // thread, if any, the writer. Then, if l has a reader or a writer, registers t's intent to write and validates a
+    // path that is found, without the filter. If l has neither, t keeps the intent it had.
     pub fn acquire_write_slow_with_recheck(
         self,
         t: usize,
@@ -167,7 +174,8 @@ impl Detector {
         self.with_judged(d)
     }
 
-    // wc
+    // wc: t writes l. Makes t its writer, adds l to t's holds, clears t's intent, refreshes l's waiters, and validates
+    // a path that the refresh finds, without the filter.
     pub fn complete_write(self, t: usize, l: usize, buf: &mut [u8]) -> Done
         requires { ⌜ Valid self × (t < THREADS) × (l < LOCKS) × (bufferBytes ≤ length (now buf)) ⌝ }
         ensures { λ r. ⌜ Does r (now (buf .entry)) (now (buf .exit)) (completeWrite (tables self) t l) ⌝ }
@@ -183,7 +191,8 @@ impl Detector {
         self.with_judged(d)
     }
 
-    // wr
+    // wr: t gives up writing l. Makes nobody its writer if t was. In any case takes l out of t's holds and drops the
+    // edges from l's waiters to t. Does not refresh l's waiters.
     pub fn release_write(self, t: usize, l: usize) -> Done
         requires { ⌜ Valid self × (t < THREADS) × (l < LOCKS) ⌝ }
         ensures { λ r. ⌜ ((b : List ℕ) → Does r b b (releaseWrite (tables self) t l)) ⌝ }
@@ -195,7 +204,8 @@ impl Detector {
         self.with_waits(w, 0)
     }
 
-    // rd
+    // rd: the readers-writer lock l is gone. Makes nobody its writer, sets its counts to 0, takes l out of all holds,
+    // and empties its waiters. Leaves the intents that name l, and all edges.
     pub fn destroy_rwlock(self, l: usize) -> Done
         requires { ⌜ Valid self × (l < LOCKS) ⌝ }
         ensures { λ r. ⌜ ((b : List ℕ) → Does r b b (destroyRwLock (tables self) l)) ⌝ }

@@ -1,4 +1,4 @@
-// The entry: one event, in any state.
+// A step: one event, in any state.
 ghost use mathlib.Core.Path.{_≡_};
 ghost use lib.ListN.{length};
 ghost use Rattle.detector.specs.Refusals.{refusal};
@@ -11,6 +11,7 @@ use crate::reply::Reply;
 use crate::reply::Stepped;
 use crate::state::Detector;
 
+// Returns the result of an event as the result of a step, whose reply is the number of reports.
 fn served(d: Done) -> Stepped
     ensures { λ r. ⌜ r ≡ served d ⌝ }
 {
@@ -22,7 +23,7 @@ fn served(d: Done) -> Stepped
 }
 
 impl Detector {
-    // The inner entry, for a state that is known to be valid: no scan.
+    // Takes a step in a state that is known to be valid, so the state is not tested. Refuses the event or serves it.
     fn step_within(self, e: Event, buf: &mut [u8]) -> Stepped
         requires { ⌜ Valid self ⌝ }
         ensures { λ r. ⌜ Replies (refusal (tables self) (length (now (buf .entry))) e) self e r (now (buf .entry)) (now (buf .exit)) ⌝ }
@@ -38,7 +39,7 @@ impl Detector {
         self.apply(e, buf)
     }
 
-    // Every event, by its rule.
+    // Serves an event that is not refused, by the rule of its word.
     fn apply(self, e: Event, buf: &mut [u8]) -> Stepped
         requires { ⌜ Valid self × (refusal (tables self) (length (now buf)) e ≡ 0) ⌝ }
         ensures { λ r. ⌜ Replies 0 self e r (now (buf .entry)) (now (buf .exit)) ⌝ }
@@ -119,7 +120,8 @@ impl Detector {
         }
     }
 
-    // The public entry, for any state: it is looked through first.
+    // Takes a step in any state. Refuses it with 2 if the state is not valid, and else refuses the event or serves it.
+    // A refusal leaves the state and the buffer as they were.
     pub fn step(self, e: Event, buf: &mut [u8]) -> Stepped
         ensures { λ r. ⌜ Steps self e r (now (buf .entry)) (now (buf .exit)) ⌝ }
     {

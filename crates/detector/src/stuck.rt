@@ -1,4 +1,4 @@
-// Stuck threads and stored edges, for the end of a replay.
+// Two totals of the end line: how many edges are stored, and how many threads are stuck.
 ghost use mathlib.Core.Path.{_≡_};
 ghost use Prim.Native.Nat.{_<_};
 ghost use lib.ListN.{length};
@@ -20,7 +20,7 @@ use sets::threads;
 use waits::Awaits;
 use waits::Waits;
 
-// The threads for which t truly waits.
+// Returns the threads for which t truly waits.
 fn blocking_mask(w: Waits, counts: &[u8; Waits::COUNTS], t: usize) -> u32
     requires { ⌜ InRange w × (t < THREADS) ⌝ }
     ensures { λ r. ⌜ r ≡ maskOf (blocking (now (counts .entry)) w (intentOf w t)) ⌝ }
@@ -39,6 +39,7 @@ fn blocking_mask(w: Waits, counts: &[u8; Waits::COUNTS], t: usize) -> u32
     readers
 }
 
+// Returns for each thread the threads for which it truly waits.
 fn rows_of(w: Waits, counts: &[u8; Waits::COUNTS]) -> [u32; THREADS]
     requires { ⌜ InRange w ⌝ }
     ensures { λ r. ⌜ r ≡ trueWaits (now (counts .entry)) w ⌝ }
@@ -52,7 +53,7 @@ fn rows_of(w: Waits, counts: &[u8; Waits::COUNTS]) -> [u32; THREADS]
     rows
 }
 
-// Does a way lead from u to t?
+// Returns true if there is a path from u to t.
 fn leads(rows: [u32; THREADS], u: usize, t: usize) -> bool
     requires { ⌜ u < THREADS ⌝ }
     ensures { λ r. ⌜ r ≡ found (findPath rows u t) ⌝ }
@@ -65,7 +66,7 @@ fn leads(rows: [u32; THREADS], u: usize, t: usize) -> bool
     true
 }
 
-// Does a way lead to t from a thread of the set?
+// Returns true if there is a path to t from a thread of the set.
 fn any_leads(rows: [u32; THREADS], set: u32, t: usize) -> bool
     ensures { λ r. ⌜ r ≡ anyBack rows t (upward THREADS set) ⌝ }
 {
@@ -80,6 +81,7 @@ fn any_leads(rows: [u32; THREADS], set: u32, t: usize) -> bool
     false
 }
 
+// Returns true if t is stuck: there is a path back to t from a thread for which it truly waits.
 fn is_stuck(rows: [u32; THREADS], t: usize) -> bool
     requires { ⌜ t < THREADS ⌝ }
     ensures { λ r. ⌜ r ≡ stuckIn rows t ⌝ }
@@ -87,6 +89,7 @@ fn is_stuck(rows: [u32; THREADS], t: usize) -> bool
     any_leads(rows, rows[t], t)
 }
 
+// Returns how many threads are stuck.
 fn count_stuck(rows: [u32; THREADS]) -> usize
     ensures { λ r. ⌜ r ≡ length (those (stuckIn rows) THREADS) ⌝ }
 {
@@ -101,6 +104,7 @@ fn count_stuck(rows: [u32; THREADS]) -> usize
     n
 }
 
+// Returns how many edges the rows have.
 fn count_edges(rows: [u32; THREADS]) -> usize
     ensures { λ r. ⌜ r ≡ edgeCount rows ⌝ }
 {
@@ -114,7 +118,7 @@ fn count_edges(rows: [u32; THREADS]) -> usize
 }
 
 impl Detector {
-    // For each thread, those for which it truly waits.
+    // Returns for each thread the threads for which it truly waits in this state.
     fn true_waits(self) -> [u32; THREADS]
         requires { ⌜ Valid self ⌝ }
         ensures { λ r. ⌜ r ≡ trueWaits (self .«rwlock_readers») (self .waits) ⌝ }
@@ -124,7 +128,7 @@ impl Detector {
         rows_of(w, &counts)
     }
 
-    // How many threads are stuck, in a state that is known to be valid.
+    // Returns how many threads are stuck in a state that is known to be valid.
     pub fn stuck_within(self) -> usize
         requires { ⌜ Valid self ⌝ }
         ensures { λ r. ⌜ r ≡ stuckCount (tables self) ⌝ }
@@ -133,7 +137,7 @@ impl Detector {
         count_stuck(rows)
     }
 
-    // The same for any state: it is looked through first.
+    // Returns how many threads are stuck, or refusal 2 if the state is not valid.
     pub fn stuck(self) -> Count
         ensures { λ r. ⌜ r ≡ stuckOf self ⌝ }
     {
@@ -144,7 +148,7 @@ impl Detector {
         Count::Refused(2)
     }
 
-    // How many edges are stored.
+    // Returns how many edges are stored.
     pub fn edges_stored(self) -> usize
         ensures { λ r. ⌜ r ≡ edgeCount (self .waits .«wait_for_graph» .edges) ⌝ }
     {

@@ -1,5 +1,5 @@
-// Every state that the code can hold is `Typed`: `typed` does nothing, and is here for its contract. What the types hold of a
-// struct is known of one alone, and not of one among others: so each struct of a table is read.
+// Every state that the code can have is `Typed`. `typed` does nothing and is here for its contract alone. The prover
+// knows what the types say of a struct by itself, but not of one in an array, so each struct of a table is read out.
 ghost use Prim.Native.Nat.{ℕ, _<_};
 ghost use lib.ListN.{getD};
 ghost use Rattle.detector.specs.Limits.{CONDVARS};
@@ -14,10 +14,12 @@ use crate::state::Queue;
 use sets::THREADS;
 use waits::Slot;
 
+// Shows that the numbers of a pair are bytes.
 fn pair(p: Pair)
     ensures { λ _. ⌜ (p .thread < 256) × (p .lock < 256) ⌝ }
 {}
 
+// Shows that a queue is typed.
 fn queue(q: Queue)
     ensures { λ _. ⌜ TypedQueue q ⌝ }
 {
@@ -29,6 +31,7 @@ fn queue(q: Queue)
     }
 }
 
+// Shows that every queue is typed.
 fn queues(qs: [Queue; Detector::CONDVARS])
     ensures { λ _. ⌜ ((c : ℕ) → c < CONDVARS → TypedQueue (getD qs c blankQueue)) ⌝ }
 {
@@ -40,10 +43,12 @@ fn queues(qs: [Queue; Detector::CONDVARS])
     }
 }
 
+// Shows that a cv wait is typed.
 fn cv_wait(v: CvWait)
     ensures { λ _. ⌜ TypedCvWait v ⌝ }
 {}
 
+// Shows that every cv wait is typed.
 fn cv_waits(vs: [CvWait; THREADS])
     ensures { λ _. ⌜ ((t : ℕ) → TypedCvWait (getD vs t blankCvWait)) ⌝ }
 {
@@ -55,7 +60,7 @@ fn cv_waits(vs: [CvWait; THREADS])
     }
 }
 
-// The lock of an intent is what `lock` gives, a byte.
+// Shows that the lock of every intent is a byte, since it is what `lock` returns.
 fn intents(ss: [Slot; THREADS])
     ensures { λ _. ⌜ ((t : ℕ) → lockOf (getD ss t noSlot .awaits) < 256) ⌝ }
 {
@@ -67,6 +72,7 @@ fn intents(ss: [Slot; THREADS])
     }
 }
 
+// Shows that the state is typed.
 pub fn typed(d: Detector)
     ensures { λ _. ⌜ Typed d ⌝ }
 {

@@ -1,4 +1,4 @@
-// Refusal 2: is every number of a lent state in its table's range, and every place not in use 0?
+// The test of a lent state for refusal 2: numbers in range, no queue too long, and 0 at every place not in use.
 ghost use mathlib.Core.Path.{_≡_};
 ghost use mathlib.Core.Bool.{true};
 ghost use Prim.Native.Nat.{ℕ, _<_};
@@ -19,14 +19,16 @@ use sets::LOCKS;
 use sets::THREADS;
 use waits::Waits;
 
-// The bytes in the tables are compared with these.
+// The lowest byte that is no thread.
 const THREADS_END: u8 = THREADS as u8;
 
+// The lowest byte that is no lock.
 const LOCKS_END: u8 = LOCKS as u8;
 
+// The lowest byte that is neither a thread nor nobody.
 const OWNERS_END: u8 = Waits::NOBODY + 1;
 
-// Every intent names a lock.
+// Returns true if every intent names a lock below 64.
 fn intents_in_range(w: Waits) -> bool
     ensures { λ r. ⌜ r ≡ every (λ t. ltb (lockOf (intentOf w t)) LOCKS) THREADS ⌝ }
 {
@@ -42,7 +44,7 @@ fn intents_in_range(w: Waits) -> bool
     true
 }
 
-// Every lock has a thread, or none.
+// Returns true if the table has a thread below 32 or nobody for every lock.
 fn threads_in_range(of: [u8; LOCKS]) -> bool
     ensures { λ r. ⌜ r ≡ every (λ l. ltb (row of l) 33) LOCKS ⌝ }
 {
@@ -57,6 +59,7 @@ fn threads_in_range(of: [u8; LOCKS]) -> bool
     true
 }
 
+// Returns true if the intents, the owners and the writers are in range.
 fn waits_in_range(w: Waits) -> bool
     ensures { λ r. ⌜ r ≡ rangeTest w ⌝ }
 {
@@ -71,7 +74,7 @@ fn waits_in_range(w: Waits) -> bool
     false
 }
 
-// Place k of a queue of n pairs.
+// Returns true if the pair p may be at place k of a queue of n pairs: in range before the queue's end, 0 after it.
 fn place_valid(n: usize, k: usize, p: Pair) -> bool
     ensures { λ r. ⌜ r ≡ placeTest n k p ⌝ }
 {
@@ -87,7 +90,8 @@ fn place_valid(n: usize, k: usize, p: Pair) -> bool
     false
 }
 
-// That there are 32 cells is known of a queue alone, and not of one among others: so it is said here.
+// Returns true if a queue is valid: at most 32 pairs, all in range, and 0 after its end. The prover knows that a queue
+// by itself has 32 places, but not that one in an array has, so the contract states it too.
 fn queue_valid(q: Queue) -> bool
     ensures { λ r. ⌜ (r ≡ queueTest q) × (length (q .pairs) ≡ PLACES) ⌝ }
 {
@@ -107,6 +111,7 @@ fn queue_valid(q: Queue) -> bool
     true
 }
 
+// Returns true if every queue is valid.
 fn queues_valid(qs: [Queue; Detector::CONDVARS]) -> bool
     ensures { λ r. ⌜ (r ≡ every (λ c. queueTest (getD qs c blankQueue)) CONDVARS) × (r ≡ true → (c : ℕ) → c < CONDVARS → length (getD qs c blankQueue .pairs) ≡ PLACES) ⌝ }
 {
@@ -122,6 +127,7 @@ fn queues_valid(qs: [Queue; Detector::CONDVARS]) -> bool
     true
 }
 
+// Returns true if a cv wait is valid: condvar and lock in range, or no condvar and the lock 0.
 fn cv_wait_valid(v: CvWait) -> bool
     ensures { λ r. ⌜ r ≡ cvWaitTest v ⌝ }
 {
@@ -134,6 +140,7 @@ fn cv_wait_valid(v: CvWait) -> bool
     false
 }
 
+// Returns true if every cv wait is valid.
 fn cv_waits_valid(vs: [CvWait; THREADS]) -> bool
     ensures { λ r. ⌜ r ≡ every (λ t. cvWaitTest (getD vs t blankCvWait)) THREADS ⌝ }
 {
@@ -150,6 +157,7 @@ fn cv_waits_valid(vs: [CvWait; THREADS]) -> bool
 }
 
 impl Detector {
+    // Returns true if the state is valid. A step refuses any other state with 2.
     pub fn is_valid(self) -> bool
         ensures { λ r. ⌜ (r ≡ validTest self) × (r ≡ true → Valid self) ⌝ }
     {

@@ -1,4 +1,4 @@
--- Every path that is found has at most 32 threads, each below 32, whatever the rows hold.
+-- Every path that is found has at most 32 threads, each below 32, whatever the rows are.
 use mathlib.Core.Path.{_≡_, refl, ap}
 use mathlib.Core.Logic.{inl, inr}
 use mathlib.Core.List.{List, [], _∷_, _++_, foldl}
@@ -19,6 +19,7 @@ use Rattle.graph.specs.Code.{soughtOf, foundIn}
 use Rattle.graph.specs.Promises.{Fit}
 use Rattle.graph.specs.declared.wait_for_graph.WaitForGraph.{WaitForGraph}
 
+-- States that every number read from the list is below 32.
 abbrev Small : List ℕ → Type 0
 Small l = (k : ℕ) → getD l k 0 < 32
 
@@ -38,8 +39,9 @@ small-zeros : (n : ℕ) → Small (replicate n 0)
 small-zeros zero = small-nil
 small-zeros (suc n) = small-cons 0 (replicate n 0) (omega arith) (small-zeros n)
 
--- ---- the search
+-- ---- The search
 
+-- The threads found stay below 32.
 small-visit : (p : ℕ) (s : Trail) (n : ℕ) → n < 32 → Small (s .threads) → Small (visit p s n .threads)
 unfolding visit
 small-visit p s n h a = go (has (s .seen) n)
@@ -56,6 +58,7 @@ small-expand : (p : ℕ) (s : Trail) (m : ℕ) → Small (s .threads) → Small 
 unfolding expand
 small-expand p s m a = small-visits p (upward 32 m) s (upward-lt 32 m) a
 
+-- The path back along the parents stays below 32 too, and adds at most f + 1 threads to acc.
 small-back : (f : ℕ) (s : Trail) (k : ℕ) (acc : List ℕ) → Small (s .threads) → Small acc → Small (wayBack f s k acc)
 unfolding wayBack
 small-back zero s k acc a b = small-cons _ acc (a k) b
@@ -68,8 +71,9 @@ back-long zero s k acc = omega arith
 back-long (suc f) s zero acc = omega arith
 back-long (suc f) s (suc k) acc = omega (arith, back-long f s (getD (s .parents) (suc k) 0) (getD (s .threads) (suc k) 0 ∷ acc))
 
--- ---- answers
+-- ---- Results of a search
 
+-- States that the record of a search's result has at most 32 threads, each below 32.
 abbrev pub Fits : Option (List ℕ) → Type 0
 Fits o = Fit (soughtOf o .path)
 
@@ -88,6 +92,7 @@ fits-cond : (b : Bool) (x y : Option (List ℕ)) → Fits x → Fits y → Fits 
 fits-cond true x y p q = p
 fits-cond false x y p q = q
 
+-- Every path that a search finds fits.
 fits-search : (f : ℕ) (rows : List ℕ) (a p : ℕ) (s : Trail) → Small (s .threads) → Fits (search f rows a p s)
 unfolding search
 fits-search zero rows a p s h = fits-none
@@ -114,6 +119,7 @@ fits-add g a b h = go (has (row (g .edges) a) b)
     go true = fits-none
     go false = fits-closing g a b (findPath (g .edges) b a) (fits-find (g .edges) b a h)
 
+-- The first of two paths that fit fits.
 pub fits-first : (x y : Option (List ℕ)) → Fits x → Fits y → Fits (first x y)
 fits-first (some p) y a b = a
 fits-first none y a b = b
@@ -123,17 +129,19 @@ unfolding addNext
 fits-all t [] k h f = f
 fits-all t (o ∷ os) k h f = fits-all t os (addNext t k o) (λ p i. h p (inr i)) (fits-first (k .found) _ f (fits-add (k .graph) t o (h o (inl refl))))
 
+-- The path that adding edges to owners finds fits, if every owner is below 32.
 pub fits-owners : (t : ℕ) (g : WaitForGraph) (os : List ℕ) → ((o : ℕ) → In o os → o < 32) → Fits (addOwners t g os .found)
 unfolding addOwners
 fits-owners t g os h = fits-all t os (adding g none) h fits-none
 
--- ---- an answer, read back
+-- ---- The result, read back from its record
 
+-- The record of a result has this result in it.
 pub found-in : (o : Option (List ℕ)) → foundIn (soughtOf o) ≡ o
 found-in none = refl
 found-in (some p) = ap some (take-append-seam p (replicate (32 - length p) 0))
 
--- a thread or none is below 32
+-- The thread in the list that `one` gives is below 32.
 pub one-lt : (o x : ℕ) → In x (one o) → x < 32
 one-lt o x = go (ltb o 32) (ltb-true o 32)
   where

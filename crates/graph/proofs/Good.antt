@@ -22,15 +22,15 @@ use Rattle.graph.specs.declared.wait_for_graph.WaitForGraph.{WaitForGrap
 use Rattle.graph.proofs.Ways.{acyclic-within, acyclic-plus}
 use Rattle.graph.proofs.Paths.{path-found, none-found}
 
--- ---- one element of one row
+-- ---- One digit of one row
 
--- table u is t changed at (i, j): the digit there is d, and any other is as it was
+-- States that the table u is the table t with digit j of row i set to d, and no other digit changed.
 pub record At (t u : List ℕ) (i j d : ℕ) : Type 0 where
   pub there : bit (row u i) j ≡ d
   pub else : (k l : ℕ) → ((k ≡ i) × (l ≡ j) → ⊥) → bit (row u k) l ≡ bit (row t k) l
 
 module _ (t : List ℕ) (i j : ℕ) (h : i < length t) where
-  -- the new row v differs from the old one at j alone
+  -- If the new row v differs from the old one at j alone, storing it changes that digit alone.
   at-set : (v d : ℕ) → bit v j ≡ d → ((l : ℕ) → (l ≡ j → ⊥) → bit v l ≡ bit (row t i) l) → At t (set t i v) i j d
   at-set v d p q =
       record {
@@ -43,14 +43,16 @@ module _ (t : List ℕ) (i j : ℕ) (h : i < length t) where
       go k l n (yes e) (no f) = rw (e, getD-set-same t i v 0 h) (q l f)
       go k l n (no e) f = rw (getD-set-other t i k v 0 e)
 
+  -- Adding and taking out a number change its digit alone.
   pub at-put : At t (put t i j) i j 1
   at-put = at-set (with (row t i) j) 1 (bit-with-same _ _) (λ l n. bit-with-other _ _ _ n)
 
   pub at-cut : At t (cut t i j) i j 0
   at-cut = at-set (without (row t i) j) 0 (bit-without-same _ _) (λ l n. bit-without-other _ _ _ n)
 
--- ---- the mirror
+-- ---- The mirror
 
+-- Tables that mirror each other still do after the same digit was set in both.
 mirror-at : (e e′ i i′ : List ℕ) (a b d : ℕ) → At e e′ a b d → At i i′ b a d → Mirror e i → Mirror e′ i′
 mirror-at e e′ i i′ a b d p q m x y = go (ℕ-discrete x a) (ℕ-discrete y b)
   where
@@ -59,8 +61,9 @@ mirror-at e e′ i i′ a b d p q m x y = go (ℕ-discrete x a) (ℕ-discrete y 
     go (yes s) (no r) = p .else x y (λ z. r (z .1)) ∙ m x y ∙ sym (q .else y x (λ z. r (z .0)))
     go (no s) r = p .else x y (λ z. s (z .0)) ∙ m x y ∙ sym (q .else y x (λ z. s (z .1)))
 
--- ---- every row in range
+-- ---- Every row in range
 
+-- States that every row is a set of numbers below 32.
 abbrev Narrow : List ℕ → Type 0
 Narrow t = (k : ℕ) → row t k < 2 ^ 32
 
@@ -73,11 +76,13 @@ narrow-cut t i j n = set-all (λ m. m < 2 ^ 32) t i _ 0 (omega (arith, without-l
 narrow-zero : (t : List ℕ) (i : ℕ) → Narrow t → Narrow (set t i 0)
 narrow-zero t i n = set-all (λ m. m < 2 ^ 32) t i 0 0 (lit< tt) n
 
--- ---- a number goes out of many rows
+-- ---- A number taken out of many rows
 
+-- Returns the table with j taken out of each of the rows in the list.
 abbrev cuts : ℕ → List ℕ → List ℕ → List ℕ
 cuts j t l = foldl (λ u i. cut u i j) t l
 
+-- States that every number of the list is below n.
 abbrev Inside : List ℕ → ℕ → Type 0
 Inside l n = (x : ℕ) → In x l → x < n
 
@@ -92,6 +97,7 @@ cuts-narrow : (j : ℕ) (l t : List ℕ) → Narrow t → Narrow (cuts j t l)
 cuts-narrow j [] t n = n
 cuts-narrow j (x ∷ l) t n = cuts-narrow j l (cut t x j) (narrow-cut t x j n)
 
+-- What was not in a row is not in it after j was taken out of the rows of the list.
 cuts-zero : (j : ℕ) (l t : List ℕ) → Inside l (length t) → (k i : ℕ) → bit (row t k) i ≡ 0 → bit (row (cuts j t l) k) i ≡ 0
 cuts-zero j [] t w k i e = e
 cuts-zero j (x ∷ l) t w k i e = cuts-zero j l (cut t x j) (inside-tail x j l t w) k i (go (ℕ-discrete k x) (ℕ-discrete i j))
@@ -104,6 +110,7 @@ cuts-zero j (x ∷ l) t w k i e = cuts-zero j l (cut t x j) (inside-tail x j l t
     go (yes p) (no q) = a .else k i (λ z. q (z .1)) ∙ e
     go (no p) q = a .else k i (λ z. p (z .0)) ∙ e
 
+-- After that, j is in none of these rows.
 cuts-there : (j : ℕ) (l t : List ℕ) → Inside l (length t) → (k : ℕ) → In k l → bit (row (cuts j t l) k) j ≡ 0
 cuts-there j [] t w k h = absurd h
 cuts-there j (x ∷ l) t w k h =
@@ -111,6 +118,7 @@ cuts-there j (x ∷ l) t w k h =
     (λ e. cuts-zero j l (cut t x j) (inside-tail x j l t w) k j (rw e (at-cut t x j (w x (inl refl)) .there)))
     (λ i. cuts-there j l (cut t x j) (inside-tail x j l t w) k i) h
 
+-- Nothing but j was taken out.
 cuts-else : (j : ℕ) (l t : List ℕ) → Inside l (length t) → (k i : ℕ) → (i ≡ j → ⊥) → bit (row (cuts j t l) k) i ≡ bit (row t k) i
 cuts-else j [] t w k i n = refl
 cuts-else j (x ∷ l) t w k i n =
@@ -120,13 +128,13 @@ module _ (i : List ℕ) (j m : ℕ) (len : length i ≡ 32) where
   walked : Inside (upward 32 m) (length i)
   walked x q = rw len (upward-lt 32 m x q)
 
-  -- only edges that were there are left
+  -- No edge is left that was not there before.
   pub cutAll-within : Within (Edge (cutAll j i m)) (Edge i)
   unfolding cutAll
   cutAll-within x y d =
       ⊎-elim (λ z. absurd (omega (arith, d, cuts-zero j (upward 32 m) i walked x y z))) (λ o. o) (bit-cases (row i x) y)
 
--- row t of one table goes, and t out of the rows of the other that it named
+-- Emptying row t of one table and taking t out of the rows of the other that it named keeps them mirrored.
 mirror-clear : (e i : List ℕ) (t : ℕ) → t < length e → length i ≡ 32 → row e t < 2 ^ 32 → Mirror e i → Mirror (set e t 0) (cutAll t i (row e t))
 unfolding cutAll
 mirror-clear e i t h len nar m x y = go (ℕ-discrete x t)
@@ -143,7 +151,7 @@ mirror-clear e i t h len nar m x y = go (ℕ-discrete x t)
     go (yes p) = rw (p, getD-set-same e t 0 0 h) (bit-zero y ∙ sym zeroed)
     go (no p) = rw (getD-set-other e t x 0 0 p) (m x y ∙ sym (cuts-else t (upward 32 (row e t)) i w y x p))
 
--- the row is empty, and the others are as they were
+-- After row t was emptied, the edges are those that do not start at t.
 pub emptied-row : (e : List ℕ) (t : ℕ) → t < length e → (x y : ℕ) → Edge (set e t 0) x y ↔ ((x ≡ t → ⊥) × Edge e x y)
 emptied-row e t h x y = (λ d. go d (ℕ-discrete x t), λ p. rw (getD-set-other e t x 0 0 (p .0)) (p .1))
   where
@@ -151,8 +159,9 @@ emptied-row e t h x y = (λ d. go d (ℕ-discrete x t), λ p. rw (getD-set-other
     go d (yes p) = absurd (omega (arith, bit-zero y, rw (p, getD-set-same e t 0 0 h) at d))
     go d (no p) = (p, rw (getD-set-other e t x 0 0 p) at d)
 
--- ---- what each does to the edges
+-- ---- What each operation does to the edges
 
+-- After an edge was stored, the edges are those before and this one.
 pub stored-edge : (g : WaitForGraph) (a b : ℕ) → Sized g → a < 32 → (x y : ℕ) → Edge (stored g a b .edges) x y ↔ Plus (Edge (g .edges)) a b x y
 unfolding stored
 stored-edge g a b s ha x y = (λ d. go d (ℕ-discrete x a) (ℕ-discrete y b), back)
@@ -174,10 +183,12 @@ stored-edge g a b s ha x y = (λ d. go d (ℕ-discrete x a) (ℕ-discrete y b), 
     back (inl d) = keep d (ℕ-discrete x a) (ℕ-discrete y b)
     back (inr q) = rw (q .0, q .1) (p .there)
 
+-- After the edges from t were dropped, the edges are those that do not start at t.
 pub cleared-edge : (g : WaitForGraph) (t : ℕ) → Sized g → t < 32 → (x y : ℕ) → Edge (clearWaitEdges g t .edges) x y ↔ ((x ≡ t → ⊥) × Edge (g .edges) x y)
 unfolding clearWaitEdges
 cleared-edge g t s h = emptied-row (g .edges) t (omega (arith, s .long))
 
+-- Taking a number out of a row adds no edge.
 cut-within : (t : List ℕ) (i j : ℕ) → i < length t → Within (Edge (cut t i j)) (Edge t)
 cut-within t i j h x y d = go (ℕ-discrete x i) (ℕ-discrete y j)
   where
@@ -189,9 +200,10 @@ cut-within t i j h x y d = go (ℕ-discrete x i) (ℕ-discrete y j)
     go (yes e) (no f) = sym (p .else x y (λ z. f (z .1))) ∙ d
     go (no e) f = sym (p .else x y (λ z. e (z .0))) ∙ d
 
--- ---- THEOREMS: what every graph operation keeps
+-- ---- THEOREMS: what every operation on a graph keeps
 
--- every outcome of an add: the edge was there; it would close a cycle; it is stored
+-- Adding an edge has three outcomes: the edge was there, a path shows that it would close a cycle, or it is stored.
+-- What is true in each case is true of the result.
 pub add-cases : (g : WaitForGraph) (a b : ℕ) → Sized g → b < 32 → (P : Adding → Type 0)
     → (Edge (g .edges) a b → P (adding g none))
     → ((p : List ℕ) → Found (Edge (g .edges)) b a p → P (adding g (some p)))
@@ -208,6 +220,7 @@ add-cases g a b s hb P c₁ c₂ c₃ = go (has (row (g .edges) a) b) refl
     go true e = c₁ (has-bit _ _ e)
     go false e = then (findPath (g .edges) b a) refl
 
+-- Storing an edge keeps the size of the tables, and so does dropping the edges from a thread.
 pub sized-stored : (g : WaitForGraph) (a b : ℕ) → a < 32 → b < 32 → Sized g → Sized (stored g a b)
 unfolding stored
 sized-stored g a b ha hb s =
@@ -228,6 +241,7 @@ sized-clear g t s =
       narrow-in = cuts-narrow t (upward 32 (row (g .edges) t)) (g .«incoming_edges») (s .narrow-in);
     }
 
+-- The graph without edges is good.
 pub good-empty : Good empty
 good-empty =
     record {
@@ -250,6 +264,7 @@ good-empty =
     blank : (a b : ℕ) → bit (row (empty .edges) a) b ≡ 0
     blank a b = ap (λ (m : ℕ). bit m b) (none-there a) ∙ bit-zero b
 
+-- Storing an edge from a to b keeps a graph good if no walk leads from b to a.
 pub good-stored : (g : WaitForGraph) (a b : ℕ) → a < 32 → b < 32 → Good g → (Walk (Edge (g .edges)) b a → ⊥) → Good (stored g a b)
 unfolding stored
 good-stored g a b ha hb k n =
@@ -263,6 +278,7 @@ good-stored g a b ha hb k n =
     both : Mirror (stored g a b .edges) (stored g a b .«incoming_edges»)
     both = mirror-at _ _ _ _ a b 1 (at-put (g .edges) a b (omega (arith, k .sized .long))) (at-put (g .«incoming_edges») b a (omega (arith, k .sized .long-in))) (k .mirror)
 
+-- Each operation of the rules keeps a graph good.
 pub good-add : (g : WaitForGraph) (a b : ℕ) → a < 32 → b < 32 → Good g → Good (addEdge g a b .graph)
 good-add g a b ha hb k = add-cases g a b (k .sized) hb (λ r. Good (r .graph)) (λ e. k) (λ p f. k) (λ n. good-stored g a b ha hb k n)
 

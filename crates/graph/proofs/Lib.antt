@@ -1,9 +1,9 @@
 -- Laws of the definitions, and the theorems that follow from them.
--- The code's records
+-- The first three files are about the code's records.
 pub mod Trails
 pub mod Owners
 pub mod Fits
--- Theorems
+-- These have the theorems.
 pub mod Ways
 pub mod Paths
 pub mod Good

@@ -1,4 +1,4 @@
--- What the search finds: a path that is one (`path-found`), and one wherever something leads from b to a (`none-found`).
+-- What the search finds is a path (`path-found`), and it finds one whenever a walk leads from b to a (`none-found`).
 use mathlib.Core.Path.{_≡_, refl, sym, ap, _∙_, subst}
 use mathlib.Core.Logic.{_⊎_, inl, inr, ⊎-elim}
 use mathlib.Core.List.{List, [], _∷_, _++_, foldl}
@@ -23,18 +23,21 @@ use Rattle.graph.specs.Graph.{Edge}
 use Rattle.graph.proofs.Trails.{search-met, search-on, search-end}
 use Rattle.graph.proofs.Ways.{leads-walk}
 
+-- None is no path.
 pub none-some : {x : List ℕ} → none ≡ some x → ⊥
 none-some e = let z : _≡_ {A = ℕ} 0 1 = cc in omega arith
 
--- the thread, and the parent's place, at place k
+-- Returns the thread at the place k.
 abbrev pub th : Trail → ℕ → ℕ
 th s k = getD (s .threads) k 0
 
+-- Returns the place of the parent of the thread at the place k.
 abbrev pub pa : Trail → ℕ → ℕ
 pa s k = getD (s .parents) k 0
 
--- ---- trails only grow
+-- ---- Trails only grow
 
+-- States that u has everything that s has: the threads seen, and the threads at their places.
 record Grown (s u : Trail) : Type 0 where
   pub keeps : (x : ℕ) → bit (s .seen) x ≡ 1 → bit (u .seen) x ≡ 1
   pub same : (k : ℕ) → k < length (s .threads) → th u k ≡ th s k
@@ -51,11 +54,12 @@ grown-trans s u v p q =
       longer = omega (arith, p .longer, q .longer);
     }
 
+-- Returns the trail with the thread n added, found from the place q.
 abbrev pushed : ℕ → Trail → ℕ → Trail
 pushed q s n = record { threads = s .threads ++ (n ∷ []); parents = s .parents ++ (q ∷ []); seen = with (s .seen) n }
 
 module _ (q : ℕ) (s : Trail) (n : ℕ) where
-  -- either nothing changes, or n is new
+  -- A visit changes nothing, or adds n.
   visit-cases : (has (s .seen) n ≡ true × visit q s n ≡ s) ⊎ (has (s .seen) n ≡ false × visit q s n ≡ pushed q s n)
   unfolding visit
   visit-cases = go (has (s .seen) n) refl
@@ -64,6 +68,7 @@ module _ (q : ℕ) (s : Trail) (n : ℕ) where
       go true e = inl (e, rw e)
       go false e = inr (e, rw e)
 
+  -- A visit only adds, and n is seen after it.
   visit-grown : Grown s (visit q s n)
   visit-grown =
       ⊎-elim (λ c. rw (c .1) (grown-refl s))
@@ -80,6 +85,7 @@ module _ (q : ℕ) (s : Trail) (n : ℕ) where
   visit-marks =
       ⊎-elim (λ c. rw (c .1) (has-bit _ _ (c .0))) (λ c. rw (c .1) (bit-with-same (s .seen) n)) visit-cases
 
+-- So do many visits.
 fold-grown : (q : ℕ) (l : List ℕ) (s : Trail) → Grown s (foldl (visit q) s l)
 fold-grown q [] s = grown-refl s
 fold-grown q (x ∷ l) s = grown-trans _ _ _ (visit-grown q s x) (fold-grown q l (visit q s x))
@@ -89,9 +95,10 @@ fold-marks q [] s x h = absurd h
 fold-marks q (y ∷ l) s x h =
     ⊎-elim (λ e. rw e (fold-grown q l (visit q s y) .keeps y (visit-marks q s y))) (λ i. fold-marks q l (visit q s y) x i) h
 
--- ---- what the search keeps
+-- ---- What the search keeps to
 
--- every thread is seen and stands once; each but the first was found from one before it, by an edge; the first p are done with
+-- States that every thread found is seen and stands once, that each but the first was found along an edge from one
+-- before it, and that the first p threads are expanded and none of them is a.
 pub record Kept (rows : List ℕ) (b a p : ℕ) (s : Trail) : Type 0 where
   pub fits : s .seen < 2 ^ 32
   pub counted : length (s .threads) ≡ ones (s .seen)
@@ -107,7 +114,7 @@ pub record Kept (rows : List ℕ) (b a p : ℕ) (s : Trail) : Type 0 where
   pub inside : p ≤ length (s .threads)
   pub some-thread : 0 < length (s .threads)
 
--- thread n is pushed, found from place q
+-- The thread n is added, found from the place q.
 module _ (rows : List ℕ) (b a p q : ℕ) (s : Trail) (n : ℕ) (small : n < 32) (new : has (s .seen) n ≡ false)
     (near : q < length (s .threads)) (by : Edge rows (th s q) n) (h : Kept rows b a p s) where
   more : length (s .threads ++ (n ∷ [])) ≡ suc (length (s .threads))
@@ -131,6 +138,7 @@ module _ (rows : List ℕ) (b a p q : ℕ) (s : Trail) (n : ℕ) (small : n < 32
   not-n : (k : ℕ) → k < length (s .threads) → th s k ≡ n → ⊥
   not-n k l e = omega (arith, rw e at (h .known k l), not-bit _ _ new)
 
+  -- The trail with n still keeps to it.
   pushed-kept : Kept rows b a p (pushed q s n)
   pushed-kept =
       record {
@@ -161,6 +169,7 @@ module _ (rows : List ℕ) (b a p q : ℕ) (s : Trail) (n : ℕ) (small : n < 32
           (o .0, omega (arith, o .1, more), old (o .0) (o .1) ∙ o .2)
 
 module _ (rows : List ℕ) (b a p q : ℕ) where
+  -- Visits keep to it.
   visit-kept : (s : Trail) (n : ℕ) → n < 32 → q < length (s .threads) → Edge rows (th s q) n → Kept rows b a p s → Kept rows b a p (visit q s n)
   visit-kept s n small near by h =
       ⊎-elim (λ c. rw (c .1) h) (λ c. rw (c .1) (pushed-kept rows b a p q s n small (c .0) near by h)) (visit-cases q s n)
@@ -174,7 +183,7 @@ module _ (rows : List ℕ) (b a p q : ℕ) where
       (visit-kept s x (m x (inl refl) .0) near (m x (inl refl) .1) h)
 
 module _ (rows : List ℕ) (narrow : (i : ℕ) → row rows i < 2 ^ 32) (b a : ℕ) where
-  -- the thread at place p is done with
+  -- After the thread at the place p is expanded, the first p + 1 are.
   next-kept : (p : ℕ) (s : Trail) → p < length (s .threads) → (th s p ≡ a → ⊥) → Kept rows b a p s
       → Kept rows b a (suc p) (expand p s (row rows (th s p)))
   unfolding expand
@@ -201,6 +210,7 @@ module _ (rows : List ℕ) (narrow : (i : ℕ) → row rows i < 2 ^ 32) (b a : �
         some-thread = f .some-thread;
       }
 
+  -- The trail with b alone keeps to it.
   begin-kept : b < 32 → Kept rows b a 0 (begin b)
   begin-kept h =
       record {
@@ -223,22 +233,24 @@ module _ (rows : List ℕ) (narrow : (i : ℕ) → row rows i < 2 ^ 32) (b a : �
       only x e (yes p) = sym p
       only x e (no p) = absurd (omega (arith, bit-with-other 0 b x p, bit-zero x))
 
+-- At most 32 threads are found.
 pub few : (rows : List ℕ) (b a p : ℕ) (s : Trail) → Kept rows b a p s → length (s .threads) ≤ 32
 few rows b a p s h = omega (arith, h .counted, ones-le 32 (s .seen) (h .fits))
 
--- ---- the way back is a path
+-- ---- Following the parents gives a path
 
 module _ (rows : List ℕ) (b a p : ℕ) (s : Trail) (h : Kept rows b a p s) where
-  -- from the thread at place k on, acc leads to a by threads at later places, each once
+  -- States that acc leads from the thread at the place k to a, through threads at later places, each once.
   record Tail (k : ℕ) (acc : List ℕ) : Type 0 where
     pub chain : Chain (Edge rows) (th s k) acc a
     pub once : Distinct acc
     pub later : (x : ℕ) → In x acc → (j : ℕ) × (k < j) × (j < length (s .threads)) × (th s j ≡ x)
 
+  -- The thread at the place k does not stand in acc.
   fresh : (k : ℕ) (acc : List ℕ) → Tail k acc → In (th s k) acc → ⊥
   fresh k acc t m = let j = t .later (th s k) m in h .apart k (j .0) (j .1) (j .2) (sym (j .3))
 
-  -- one parent back
+  -- The tail may start one parent earlier.
   tail-back : (k : ℕ) (acc : List ℕ) → 0 < k → k < length (s .threads) → Tail k acc → Tail (pa s k) (th s k ∷ acc)
   tail-back k acc z l t =
       record {
@@ -250,9 +262,11 @@ module _ (rows : List ℕ) (b a p : ℕ) (s : Trail) (h : Kept rows b a p s) whe
             (λ i. let j = t .later x i in (j .0, omega (arith, j .1, h .earlier k z l), j .2, j .3)) m;
       }
 
+  -- At the first thread it is a path from b to a.
   at-start : (acc : List ℕ) → Tail 0 acc → Found (Edge rows) b a (th s 0 ∷ acc)
   at-start acc t = record { leads = (h .start, t .chain); distinct = (fresh 0 acc t, t .once) }
 
+  -- Following the parents gives such a path.
   back-found : (f k : ℕ) (acc : List ℕ) → k ≤ f → k < length (s .threads) → Tail k acc → Found (Edge rows) b a (wayBack f s k acc)
   unfolding wayBack
   back-found zero k acc i l t = let z : k ≡ 0 = omega arith in rw z (at-start acc (rw z at t))
@@ -261,17 +275,20 @@ module _ (rows : List ℕ) (b a p : ℕ) (s : Trail) (h : Kept rows b a p s) whe
       let e = h .earlier (suc k) (omega arith) l in
       back-found f (pa s (suc k)) (th s (suc k) ∷ acc) (omega (arith, e)) (omega (arith, e)) (tail-back (suc k) acc (omega arith) l t)
 
+  -- When a is met, following the parents gives a path from b to a.
   met-found : p < length (s .threads) → th s p ≡ a → Found (Edge rows) b a (wayBack 31 s p [])
   met-found l e =
       back-found 31 p [] (omega (arith, few rows b a p s h)) l
       (record { chain = e; once = tt; later = λ x m. absurd m })
 
--- ---- the search as a whole
+-- ---- The search as a whole
 
 module _ (rows : List ℕ) (narrow : (i : ℕ) → row rows i < 2 ^ 32) (b a : ℕ) where
+  -- Returns the trail after the thread at the place p was expanded.
   abbrev on : ℕ → Trail → Trail
   on p s = expand p s (row rows (th s p))
 
+  -- If the search ends with a path, it is one from b to a.
   search-found : (f p : ℕ) (s : Trail) (l : List ℕ) → Kept rows b a p s → search f rows a p s ≡ some l → Found (Edge rows) b a l
   unfolding search
   search-found zero p s l h r = absurd (none-some r)
@@ -285,7 +302,7 @@ module _ (rows : List ℕ) (narrow : (i : ℕ) → row rows i < 2 ^ 32) (b a : �
       go (yes i) (no n) next = next i n
       go (no i) d next = absurd (none-some (sym (search-end (suc f) rows a p s (omega arith)) ∙ r))
 
-  -- where it ends with none, all that was found is done with
+  -- If it ends with none, every thread found is expanded.
   search-closed : (f p : ℕ) (s : Trail) → f + p ≡ 32 → Kept rows b a p s → search f rows a p s ≡ none
       → (u : Trail) × Grown s u × Kept rows b a (length (u .threads)) u
   unfolding expand
@@ -308,7 +325,7 @@ module _ (rows : List ℕ) (narrow : (i : ℕ) → row rows i < 2 ^ 32) (b a : �
           let q : p ≡ length (s .threads) = omega (arith, h .inside) in
           (s, grown-refl s, rw q at h)
 
-  -- turns beyond the 32nd find nothing more
+  -- Turns after the 32nd find nothing more.
   more-turns : (k f p : ℕ) (s : Trail) → f + p ≡ 32 → Kept rows b a p s → search (f + k) rows a p s ≡ search f rows a p s
   unfolding search
   more-turns k zero p s e h = search-end (0 + k) rows a p s (omega (arith, few rows b a p s h))
@@ -326,6 +343,7 @@ module _ (rows : List ℕ) (narrow : (i : ℕ) → row rows i < 2 ^ 32) (b a : �
       go (yes l) (no n) next = rw z (search-on (f + k) rows a p s l n ∙ next l n ∙ sym (search-on f rows a p s l n))
       go (no l) d next = search-end (suc f + k) rows a p s (omega arith) ∙ sym (search-end (suc f) rows a p s (omega arith))
 
+  -- When every thread found is expanded and none is a, no walk leads from a thread that is seen to a.
   never : (u : Trail) → Kept rows b a (length (u .threads)) u → {x y : ℕ} → Walk (Edge rows) x y → y ≡ a → bit (u .seen) x ≡ 1 → ⊥
   never u kept (stop {a = x} i) q e = let l = kept .listed x e in kept .past (l .0) (l .1) (l .2 ∙ i ∙ q)
   never u kept (step {a = x} {c = y} d w) q e =
@@ -335,12 +353,12 @@ module _ (rows : List ℕ) (narrow : (i : ℕ) → row rows i < 2 ^ 32) (b a : �
 -- ---- THEOREMS
 
 module _ (rows : List ℕ) (narrow : (i : ℕ) → row rows i < 2 ^ 32) (b a : ℕ) (small : b < 32) where
-  -- a found path starts at b, ends at a, each step is an edge, and no thread stands twice
+  -- A path that is found starts at b, ends at a, goes along edges, and has no thread twice.
   pub path-found : (p : List ℕ) → findPath rows b a ≡ some p → Found (Edge rows) b a p
   unfolding findPath
   path-found p r = search-found rows narrow b a 32 0 (begin b) p (begin-kept rows narrow b a small) r
 
-  -- none found: no way from b to a
+  -- If none is found, no walk leads from b to a.
   pub none-found : findPath rows b a ≡ none → Walk (Edge rows) b a → ⊥
   unfolding findPath
   none-found r w =
@@ -348,7 +366,7 @@ module _ (rows : List ℕ) (narrow : (i : ℕ) → row rows i < 2 ^ 32) (b a : �
       let t = search-closed rows narrow b a 32 0 (begin b) refl k r in
       never rows narrow b a (t .0) (t .2) w refl (t .1 .keeps b (bit-with-same 0 b))
 
-  -- a way from b to a: a path is found
+  -- If a walk leads from b to a, a path is found.
   pub way-found : Walk (Edge rows) b a → (p : List ℕ) × (findPath rows b a ≡ some p)
   way-found w = go (findPath rows b a) refl
     where
@@ -356,7 +374,7 @@ module _ (rows : List ℕ) (narrow : (i : ℕ) → row rows i < 2 ^ 32) (b a : �
       go none e = absurd (none-found e w)
       go (some p) e = (p, e)
 
-  -- so it is decided whether there is a way
+  -- So it is decided whether a walk leads from b to a.
   pub walk-cases : Walk (Edge rows) b a ⊎ (Walk (Edge rows) b a → ⊥)
   walk-cases = go (findPath rows b a) refl
     where
@@ -364,12 +382,12 @@ module _ (rows : List ℕ) (narrow : (i : ℕ) → row rows i < 2 ^ 32) (b a : �
       go none e = inr (none-found e)
       go (some p) e = inl (leads-walk (Edge rows) b a p (path-found p e .leads))
 
-  -- with 32 rows the search needs no more than 32 turns
+  -- With 32 rows the search needs no more than 32 turns.
   pub turns-enough : (k : ℕ) → search (32 + k) rows a 0 (begin b) ≡ findPath rows b a
   unfolding findPath
   turns-enough k = more-turns rows narrow b a k 32 0 (begin b) refl (begin-kept rows narrow b a small)
 
--- every thread that an edge leads to is below 32
+-- Every thread that an edge leads to is below 32.
 edge-small : (rows : List ℕ) → ((i : ℕ) → row rows i < 2 ^ 32) → (x y : ℕ) → Edge rows x y → y < 32
 edge-small rows narrow x y e = bit-below 32 (row rows x) y (narrow x) e
 
@@ -377,7 +395,7 @@ chain-small : (rows : List ℕ) → ((i : ℕ) → row rows i < 2 ^ 32) → (x :
 chain-small rows narrow x (c ∷ r) z k y (inl e) = rw e (edge-small rows narrow x c (k .0))
 chain-small rows narrow x (c ∷ r) z k y (inr m) = chain-small rows narrow c r z (k .1) y m
 
--- a path has at most 32 threads, each below 32
+-- A path has at most 32 threads, each below 32.
 pub path-small : (rows : List ℕ) → ((i : ℕ) → row rows i < 2 ^ 32) → (b a : ℕ) → b < 32 → (p : List ℕ) → Found (Edge rows) b a p → (y : ℕ) → In y p → y < 32
 path-small rows narrow b a small (x ∷ r) f y (inl e) = rw (e, f .leads .0) small
 path-small rows narrow b a small (x ∷ r) f y (inr m) = chain-small rows narrow x r a (f .leads .1) y m
@@ -385,7 +403,7 @@ path-small rows narrow b a small (x ∷ r) f y (inr m) = chain-small rows narrow
 pub path-short : (rows : List ℕ) → ((i : ℕ) → row rows i < 2 ^ 32) → (b a : ℕ) → b < 32 → (p : List ℕ) → Found (Edge rows) b a p → length p ≤ 32
 path-short rows narrow b a small p f = pigeon 32 p (f .distinct) (path-small rows narrow b a small p f)
 
--- absent a to a gives the path [a]
+-- The path from a to a is a alone.
 pub self-found : (rows : List ℕ) (a : ℕ) → findPath rows a a ≡ some (a ∷ [])
 unfolding findPath wayBack
 self-found rows a = search-met 31 rows a 0 (begin a) (lit< tt) refl

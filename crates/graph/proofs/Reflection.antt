@@ -1,4 +1,4 @@
--- The test over 32 rows and columns is true exactly where two tables of 32 sets mirror each other.
+-- The test over 32 rows and columns is true exactly when two tables of 32 sets mirror each other.
 use mathlib.Core.Path.{_≡_, refl, sym, ap, _∙_}
 use mathlib.Core.Logic.{_⊎_, inl, inr, ⊎-elim}
 use mathlib.Core.List.{List}
@@ -13,7 +13,7 @@ use Rattle.sets.proofs.Below.{every-at, every-of}
 use Rattle.graph.specs.Search.{row}
 use Rattle.graph.specs.Graph.{agree, mirrorAt, mirrorTest, Mirror}
 
--- two digits are the same where the tests say so
+-- Two digits are the same exactly when the tests on them agree.
 same-digit : (m i n j : ℕ) → agree (has m i) (has n j) ≡ true → bit m i ≡ bit n j
 same-digit m i n j e = go (bit-cases m i) (bit-cases n j)
   where
@@ -32,13 +32,14 @@ digit-same m i n j e = rw e (go (has n j))
 
 module _ (e i : List ℕ) (long : length e ≡ 32) (long-in : length i ≡ 32)
     (narrow : (k : ℕ) → row e k < 2 ^ 32) (narrow-in : (k : ℕ) → row i k < 2 ^ 32) where
-  -- outside the rows and columns there is nothing on either side
+  -- Outside the 32 rows and columns there is no edge in either table.
   far : (t u : List ℕ) → length t ≡ 32 → ((k : ℕ) → row u k < 2 ^ 32) → (a b : ℕ) → 32 ≤ a → (bit (row t a) b ≡ 0) × (bit (row u b) a ≡ 0)
   far t u l n a b h = (
     ap (λ (m : ℕ). bit m b) (List·getD-eq-default t 0 (omega (arith, l))) ∙ bit-zero b,
     ⊎-elim (λ z. z) (λ o. absurd (omega (arith, bit-below 32 (row u b) a (n b) o))) (bit-cases (row u b) a),
   )
 
+  -- Tables that pass the test mirror each other, and tables that mirror each other pass it.
   pub mirror-tested : mirrorTest e i ≡ true → Mirror e i
   unfolding mirrorTest
   mirror-tested h a b = go (decLt a 32) (decLt b 32)

@@ -1,4 +1,5 @@
--- The register lemma: edges from t to owners in order, each unless it closes a cycle, the first path kept.
+-- What registering does to a graph: it adds edges from t to owners in order, leaves out each that would close a cycle,
+-- and keeps the first path.
 use mathlib.Core.Path.{_≡_, refl, sym, ap, _∙_, subst, subst₂}
 use mathlib.Core.Logic.{_⊎_, inl, inr, _↔_}
 use mathlib.Core.List.{List, [], _∷_, foldl}
@@ -12,8 +13,9 @@ use Rattle.graph.proofs.Ways.{walk-map, walk-plus, acyclic-within, lead
 use Rattle.graph.proofs.Paths.{none-some}
 use Rattle.graph.proofs.Good.{add-cases, stored-edge, sized-stored, good-add}
 
--- ---- the walk over the owners, from its front
+-- ---- The walk over the owners, from its front
 
+-- Adds an edge from t to each of the owners, with the first path of all.
 addAll : ℕ → WaitForGraph → List ℕ → Adding
 addAll t g [] = adding g none
 addAll t g (o ∷ os) =
@@ -21,10 +23,12 @@ addAll t g (o ∷ os) =
     let s = addAll t (r .graph) os in
     adding (s .graph) (first (r .found) (s .found))
 
+-- Of three paths the first is the same, whichever two are looked at together.
 first-assoc : (p q r : Option (List ℕ)) → first (first p q) r ≡ first p (first q r)
 first-assoc (some p) q r = refl
 first-assoc none q r = refl
 
+-- The rule's walk, which goes on from a result, is this one.
 fold-all : (t : ℕ) (os : List ℕ) (k : Adding) → foldl (addNext t) k os ≡ adding (addAll t (k .graph) os .graph) (first (k .found) (addAll t (k .graph) os .found))
 unfolding addNext addAll
 fold-all t [] k = ap (adding (k .graph)) (go (k .found))
@@ -40,6 +44,7 @@ owners-all : (t : ℕ) (g : WaitForGraph) (os : List ℕ) → addOwners t g os �
 unfolding addOwners
 owners-all t g os = fold-all t os (adding g none)
 
+-- If `first` gives none, both are none; if it gives a path, that is the first one, or the second if the first is none.
 first-none : (p q : Option (List ℕ)) → first p q ≡ none → (p ≡ none) × (q ≡ none)
 first-none none q e = (refl, e)
 first-none (some p) q e = absurd (none-some (sym e))
@@ -48,11 +53,14 @@ first-some : (p q : Option (List ℕ)) (r : List ℕ) → first p q ≡ some r �
 first-some none q r e = inr (refl, e)
 first-some (some p) q r e = inl e
 
+-- States that every owner is below 32.
 abbrev pub Owned : List ℕ → Type 0
 Owned os = (o : ℕ) → In o os → o < 32
 
--- ---- what one add does to the edges
+-- ---- What adding one edge does
 
+-- States what adding the edge from t to o does: no edge goes, only this one may come, it comes if no walk leads from o
+-- to t, and a path that is found leads from o to t.
 record Grown (t o : ℕ) (g : WaitForGraph) (r : Adding) : Type 0 where
   pub keeps : Within (Edge (g .edges)) (Edge (r .graph .edges))
   pub only : Within (Edge (r .graph .edges)) (Plus (Edge (g .edges)) t o)
@@ -61,6 +69,7 @@ record Grown (t o : ℕ) (g : WaitForGraph) (r : Adding) : Type 0 where
   pub free : (Walk (Edge (g .edges)) o t → ⊥) → Edge (r .graph .edges) t o
   pub shut : Edge (r .graph .edges) t o → Edge (g .edges) t o ⊎ (Walk (Edge (g .edges)) o t → ⊥)
 
+-- Adding an edge does this.
 grown : (t o : ℕ) (g : WaitForGraph) → Sized g → t < 32 → o < 32 → Grown t o g (addEdge g t o)
 grown t o g s j h = add-cases g t o s h (Grown t o g)
     (λ e. record { keeps = λ x y e. e; only = λ x y e. inl e; quiet = λ q. e; loud = λ p q. absurd (none-some q); free = λ w. e; shut = λ e. inl e })
@@ -84,6 +93,7 @@ grown t o g s j h = add-cases g t o s h (Grown t o g)
     law : (x y : ℕ) → Edge (stored g t o .edges) x y ↔ Plus (Edge (g .edges)) t o x y
     law = stored-edge g t o s j
 
+-- It keeps the size of the tables.
 pub sized-add : (g : WaitForGraph) (t o : ℕ) → t < 32 → o < 32 → Sized g → Sized (addEdge g t o .graph)
 sized-add g t o j h s = add-cases g t o s h (λ r. Sized (r .graph)) (λ e. s) (λ p f. s) (λ w. sized-stored g t o j h s)
 
@@ -98,7 +108,7 @@ module _ (t : ℕ) (j : t < 32) where
   good-all [] g h k = k
   good-all (o ∷ os) g h k = good-all os (addEdge g t o .graph) (λ p m. h p (inr m)) (good-add g t o j (h o (inl refl)) k)
 
-  -- nothing found: every edge is stored
+  -- If no path is found, the graph has every edge from t to an owner.
   quiet-all : (os : List ℕ) (g : WaitForGraph) → Sized g → Owned os → addAll t g os .found ≡ none
       → Within (Fan (Edge (g .edges)) t os) (Edge (addAll t g os .graph .edges))
   unfolding addAll
@@ -122,7 +132,7 @@ module _ (t : ℕ) (j : t < 32) where
         | inr m ↦ inr (x .0, m)
       ]
 
-  -- a path found leads from one of the owners to t, by edges that were there or join t to an owner
+  -- A path that is found leads from one of the owners to t, along edges that were there or lead from t to an owner.
   loud-all : (os : List ℕ) (g : WaitForGraph) (p : List ℕ) → Sized g → Owned os → addAll t g os .found ≡ some p
       → (o : ℕ) × In o os × Found (Fan (Edge (g .edges)) t os) o t p
   unfolding addAll
@@ -150,12 +160,13 @@ module _ (t : ℕ) (j : t < 32) where
           let x = next (q .1) in
           (x .0, inr (x .1), record { leads = leads-map (Fan (Edge (r .graph .edges)) t os) (Fan (Edge (g .edges)) t (o ∷ os)) wide (x .0) t p (x .2 .leads); distinct = x .2 .distinct })
 
-  -- a way to t was there before the edges from t
+  -- A walk to t was there before the edges from t.
   to-t : (o : ℕ) (g : WaitForGraph) → Sized g → o < 32 → (x : ℕ) → Walk (Edge (addEdge g t o .graph .edges)) x t → Walk (Edge (g .edges)) x t
   to-t o g s h x w =
       elim (walk-plus (Edge (g .edges)) t o (walk-map (Edge (addEdge g t o .graph .edges)) (Plus (Edge (g .edges)) t o) (grown t o g s j h .only) w))
       [ inl u ↦ u | inr p ↦ p .0 ]
 
+  -- The edges are those before, and those from t to owners from which no walk leads to t.
   stored-all : (os : List ℕ) (g : WaitForGraph) → Sized g → Owned os → (a b : ℕ)
       → Edge (addAll t g os .graph .edges) a b ↔ (Edge (g .edges) a b ⊎ ((a ≡ t) × In b os × (Walk (Edge (g .edges)) b t → ⊥)))
   unfolding addAll
@@ -191,30 +202,30 @@ module _ (t : ℕ) (j : t < 32) where
 -- ---- THEOREMS
 
 module _ (t : ℕ) (j : t < 32) (os : List ℕ) (h : Owned os) (g : WaitForGraph) where
-  -- the graph stays mirrored and without a cycle
+  -- The tables keep their size, and a good graph stays good.
   pub register-sized : Sized g → Sized (addOwners t g os .graph)
   register-sized s = rw owners-all (sized-all t j os g h s)
 
   pub register-good : Good g → Good (addOwners t g os .graph)
   register-good k = rw owners-all (good-all t j os g h k)
 
-  -- a found path leads from an owner to t
+  -- A path that is found leads from an owner to t.
   pub register-path : Sized g → (p : List ℕ) → addOwners t g os .found ≡ some p → (o : ℕ) × In o os × Found (Fan (Edge (g .edges)) t os) o t p
   register-path s p e = loud-all t j os g p s h (rw owners-all at e)
 
-  -- it is a ring of distinct threads in the graph with all these edges
+  -- It is a ring of distinct threads in the graph with all these edges.
   pub register-ring : Sized g → (p : List ℕ) → addOwners t g os .found ≡ some p → Ring (Fan (Edge (g .edges)) t os) p × Distinct p
   register-ring s p e =
       let x = register-path s p e in
       (leads-ring (Fan (Edge (g .edges)) t os) (x .0) t p (x .2 .leads) (inr (refl, x .1)), x .2 .distinct)
 
-  -- no path found: the graph with all these edges has no cycle
+  -- If no path is found, the graph with all these edges has no cycle.
   pub register-none : Good g → addOwners t g os .found ≡ none → Acyclic (Fan (Edge (g .edges)) t os)
   register-none k e =
       acyclic-within (Fan (Edge (g .edges)) t os) (Edge (addAll t g os .graph .edges)) (quiet-all t j os g (k .sized) h (rw owners-all at e))
       (good-all t j os g h k .acyclic)
 
-  -- a cycle in it: a path is found
+  -- If the graph with all these edges has a cycle, a path is found.
   pub register-found : Good g → Cycle (Fan (Edge (g .edges)) t os) → (p : List ℕ) × (addOwners t g os .found ≡ some p)
   register-found k c = go (addOwners t g os .found) refl
     where
@@ -222,7 +233,7 @@ module _ (t : ℕ) (j : t < 32) (os : List ℕ) (h : Owned os) (g : WaitForGraph
       go none e = absurd (register-none k e (c .from) (c .to) (c .edge) (c .back))
       go (some p) e = (p, e)
 
-  -- what is stored: the edges that were there, and those to owners from which no way leads back to t
+  -- The edges stored are those that were there, and those to owners from which no walk leads back to t.
   pub register-stored : Sized g → (a b : ℕ)
       → Edge (addOwners t g os .graph .edges) a b ↔ (Edge (g .edges) a b ⊎ ((a ≡ t) × In b os × (Walk (Edge (g .edges)) b t → ⊥)))
   register-stored s a b = rw owners-all (stored-all t j os g s h a b)

@@ -1,4 +1,4 @@
--- What the code's records of a search keep to, and how the search goes on, turn by turn.
+-- The code's record of a search: what it keeps to, and how the search goes on turn by turn.
 use mathlib.Core.Path.{_≡_, refl, sym, ap, _∙_}
 use mathlib.Core.Logic.{⊎-elim}
 use mathlib.Core.List.{List, [], _∷_, _++_}
@@ -21,7 +21,7 @@ use Rattle.graph.specs.Search.{row, Trail, visit, expand, wayBack, begin
 use Rattle.graph.specs.Promises.{Sound}
 use Rattle.graph.specs.Code.{trailOf}
 
--- the search with thread n found from place p
+-- Returns the search with the thread n added, found from the place p.
 abbrev pub pushed : Search → ℕ → ℕ → Search
 pushed s n p =
     record {
@@ -32,6 +32,7 @@ pushed s n p =
     }
 
 module _ (s : Search) (n p : ℕ) (sound : Sound s) (small : n < 32) (fresh : has (s .seen) n ≡ false) where
+  -- If n was not found before, there is a place left for it.
   pub room : s .count < 32
   room =
       omega (
@@ -41,6 +42,7 @@ module _ (s : Search) (n p : ℕ) (sound : Sound s) (small : n < 32) (fresh : ha
         ones-le 32 (with (s .seen) n) (with-lt 32 (s .seen) n (sound .below) small),
       )
 
+  -- Adding n to the record is a visit.
   pub push-trail : trailOf (pushed s n p) ≡ visit p (trailOf s) n
   unfolding visit
   push-trail =
@@ -51,6 +53,7 @@ module _ (s : Search) (n p : ℕ) (sound : Sound s) (small : n < 32) (fresh : ha
       let b : s .count < length (s .parents) = omega arith in
       rw (fresh, add-one, take-suc-set (s .threads) (s .count) n, take-suc-set (s .parents) (s .count) p)
 
+  -- The record stays sound.
   pub push-sound : p < s .count → Sound (pushed s n p)
   push-sound h =
       let r = room in
@@ -63,11 +66,13 @@ module _ (s : Search) (n p : ℕ) (sound : Sound s) (small : n < 32) (fresh : ha
         earlier = λ k z q. ⊎-elim (λ l. rw (getD-set-other (s .parents) (s .count) k p 0 (λ e. omega arith)) (sound .earlier k z l)) (λ e. rw (e, getD-set-same (s .parents) (s .count) p 0 (omega arith)) h) (last-or k (s .count) (omega arith));
       }
 
+-- At most 32 threads are found.
 pub count-le : (s : Search) → Sound s → s .count ≤ 32
 count-le s h = omega (arith, h .counted, ones-le 32 (s .seen) (h .below))
 
--- ---- the way back
+-- ---- Back along the parents
 
+-- At the first thread it ends, and at any other it goes on with the parent.
 pub path-end : (f : ℕ) (s : Trail) (acc : List ℕ) → wayBack f s 0 acc ≡ getD (s .threads) 0 0 ∷ acc
 unfolding wayBack
 path-end zero s acc = refl
@@ -82,6 +87,7 @@ path-step (suc f) s (suc k) acc p q =
     let e : f ≡ suc f - 1 = omega arith in
     ap (λ (x : ℕ). wayBack x s (getD (s .parents) (suc k) 0) (getD (s .threads) (suc k) 0 ∷ acc)) e
 
+-- The same, of what the record of a search has.
 pub end-of : (f : ℕ) (s : Search) (acc : List ℕ) → 0 < s .count → wayBack f (trailOf s) 0 acc ≡ getD (s .threads) 0 0 ∷ acc
 end-of f s acc h = path-end f (trailOf s) acc ∙ rw (getD-take (s .count) (s .threads) 0 0 h)
 
@@ -90,7 +96,7 @@ pub step-of : (f : ℕ) (s : Search) (k : ℕ) (acc : List ℕ) → 0 < f → 0 
 step-of f s k acc p q h =
     path-step f (trailOf s) k acc p q ∙ rw (getD-take (s .count) (s .threads) k 0 h, getD-take (s .count) (s .parents) k 0 h)
 
--- a cell is put before those from at on
+-- A thread is put before those from the place at on.
 pub drop-put : (l : List ℕ) (at v : ℕ) → 0 < at → at ≤ length l → drop (at - 1) (set l (at - 1) v) ≡ v ∷ drop at l
 drop-put l at v p h =
     let q : at - 1 < length (set l (at - 1) v) = rw length-set (omega arith) in
@@ -98,9 +104,10 @@ drop-put l at v p h =
     drop-cons (set l (at - 1) v) (at - 1) 0 q
     ∙ rw (getD-set-same l (at - 1) v 0 (omega arith), drop-set-lt (suc (at - 1)) l (at - 1) v (omega arith), e)
 
--- ---- the search
+-- ---- The search
 
 module _ (f : ℕ) (rows : List ℕ) (a p : ℕ) (s : Trail) where
+  -- The search ends with a path when it meets a, goes on when it meets another thread, and ends with none at the end.
   pub search-met : p < length (s .threads) → getD (s .threads) p 0 ≡ a → search (suc f) rows a p s ≡ some (wayBack 31 s p [])
   unfolding search
   search-met h e = rw (lt-ltb _ _ h, eq-eqb _ _ e)
@@ -115,8 +122,9 @@ unfolding search
 search-end zero rows a p s h = refl
 search-end (suc f) rows a p s h = rw (le-ltb _ _ h)
 
--- ---- a list moved to the front of zeros
+-- ---- A list moved to the front of zeros
 
+-- One turn puts one more element before the zeros.
 pub fill-step : (l : List ℕ) (j n : ℕ) → j < length l → j < n
     → set (take j l ++ replicate (n - j) 0) j (getD l j 0) ≡ take (j + 1) l ++ replicate (n - (j + 1)) 0
 fill-step l j n h q =
@@ -125,12 +133,13 @@ fill-step l j n h q =
     rw (e, add-one j, take-suc l j 0 h)
     (set-at (take j l) 0 (replicate (n - suc j) 0) (getD l j 0) j t ∙ sym (append-snoc (take j l) (getD l j 0) (replicate (n - suc j) 0)))
 
--- ---- the search, of what the code holds
+-- ---- The search, of what its record has
 
 module _ (rows : List ℕ) (a p : ℕ) (s : Search) (sound : Sound s) where
   count-of : length (take (s .count) (s .threads)) ≡ s .count
   count-of = length-take-le (s .count) (s .threads) (omega (arith, count-le s sound, sound .long))
 
+  -- The three laws above, of the record of a search.
   pub met-of : p < s .count → getD (s .threads) p 0 ≡ a → search (32 - p) rows a p (trailOf s) ≡ some (wayBack 31 (trailOf s) p [])
   met-of h e =
       let f : 32 - p ≡ suc (31 - p) = omega (arith, count-le s sound) in
@@ -146,7 +155,7 @@ module _ (rows : List ℕ) (a p : ℕ) (s : Search) (sound : Sound s) where
   pub none-of : (f : ℕ) → s .count ≤ p → search f rows a p (trailOf s) ≡ none
   none-of f h = search-end f rows a p (trailOf s) (rw count-of h)
 
--- a start that waits for nobody leads nowhere but to itself
+-- A thread that waits for nobody leads to no other thread.
 pub start-idle : (rows : List ℕ) (b a : ℕ) → row rows b ≡ 0 → (b ≡ a → ⊥) → findPath rows b a ≡ none
 unfolding findPath expand
 start-idle rows b a e n =

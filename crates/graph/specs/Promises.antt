@@ -7,13 +7,14 @@ use Rattle.sets.specs.Limits.{THREADS}
 use Rattle.graph.specs.declared.search.Search.{Search}
 use Rattle.graph.specs.declared.path.Path.{Path}
 
--- at most 32 threads, each below 32
+-- States that a path has at most 32 threads, each below 32.
 pub record Fit (p : Path) : Type 0 where
   pub long : p .len ≤ THREADS
   pub small : (k : ℕ) → getD (p .threads) k 0 < THREADS
   pub cells : p .len ≤ length (p .threads)
 
--- as many places are in use as threads are seen, each thread is below 32, and each parent stands before
+-- States that a search has found as many threads as are seen, that each is below 32, and that the parent of each but
+-- the first stands before it.
 pub record Sound (s : Search) : Type 0 where
   pub long : length (s .threads) ≡ THREADS
   pub long-from : length (s .parents) ≡ THREADS

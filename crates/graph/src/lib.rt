@@ -1,4 +1,4 @@
-// The wait-for graph: who waits for whom, the search for a path, and whether two tables mirror each other.
+// The wait-for graph: who waits for whom, the search for a path, and the test whether two tables mirror each other.
 mod mirror;
 mod path;
 mod search;

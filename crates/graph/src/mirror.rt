@@ -1,4 +1,4 @@
-// Do two tables of rows mirror each other?
+// The test whether two tables of rows mirror each other.
 ghost use mathlib.Core.Path.{_≡_};
 ghost use Prim.Native.Nat.{_<_};
 ghost use Rattle.sets.specs.Limits.{THREADS};
@@ -7,6 +7,7 @@ ghost use Rattle.graph.specs.Graph.{agree, mirrorAt, mirrorTest};
 use sets::THREADS;
 use sets::threads;
 
+// Returns true if both are true or both are false.
 fn same(x: bool, y: bool) -> bool
     ensures { λ r. ⌜ r ≡ agree x y ⌝ }
 {
@@ -16,7 +17,7 @@ fn same(x: bool, y: bool) -> bool
     !y
 }
 
-// Row a of the edges against column a of the incoming edges.
+// Returns true if, for every thread b, b is in `row` exactly when a is in row b of the incoming edges.
 fn row_mirrors(row: u32, incoming: [u32; THREADS], a: usize) -> bool
     requires { ⌜ a < THREADS ⌝ }
     ensures { λ r. ⌜ r ≡ every (mirrorAt row incoming a) THREADS ⌝ }
@@ -32,6 +33,8 @@ fn row_mirrors(row: u32, incoming: [u32; THREADS], a: usize) -> bool
     true
 }
 
+// Returns true if every edge stands in both tables or in neither: b is in row a of the edges exactly when a is in row b
+// of the incoming edges.
 pub fn mirrors(edges: [u32; THREADS], incoming: [u32; THREADS]) -> bool
     ensures { λ r. ⌜ r ≡ mirrorTest edges incoming ⌝ }
 {

@@ -1,27 +1,29 @@
-// A path of threads, and the answer whether there is one.
+// A path of threads, and the result of a search for one.
 ghost use mathlib.Core.Path.{_≡_};
 ghost use mathlib.Core.Option.{none};
 ghost use Rattle.graph.specs.Code.{soughtOf, sooner};
 use sets::THREADS;
 
-// The threads in order; the places behind hold 0.
+// Holds the threads of a path in order. The places after them hold 0.
 pub struct Path {
     pub threads: [u8; THREADS],
     pub len: usize,
 }
 
+// Says whether there is a path.
 pub enum Way {
     Found,
     Missing,
 }
 
-// The answer of a search. The path is empty where there is none.
+// The result of a search: whether there is a path, and the path itself, which is empty if there is none.
 pub struct Sought {
     pub way: Way,
     pub path: Path,
 }
 
 impl Sought {
+    // Returns the result of a search that found no path.
     pub fn missing() -> Sought
         ensures { λ r. ⌜ r ≡ soughtOf none ⌝ }
     {
@@ -34,7 +36,7 @@ impl Sought {
         }
     }
 
-    // This path where it is one, else the later.
+    // Returns this result if it has a path, or the later one if it has none.
     pub fn or(self, later: Sought) -> Sought
         ensures { λ r. ⌜ r ≡ sooner self later ⌝ }
     {

@@ -1,4 +1,5 @@
-// The search for a path: breadth first, neighbours upward, the first parent kept.
+// The search for a path goes breadth first and takes the neighbours of a thread from the lowest number up. A thread
+// that is met again keeps the parent it was first found from.
 ghost use mathlib.Core.Path.{_≡_};
 ghost use mathlib.Core.List.{[]};
 ghost use mathlib.Core.Option.{some};
@@ -14,7 +15,8 @@ use crate::path::Way;
 use sets::THREADS;
 use sets::threads;
 
-// The threads found, in order: the queue, with what has left it. For each the place of the one that it was found from.
+// Holds the threads found in the order in which they were found, which is also the queue of threads to expand; for each
+// the place of its parent, the thread it was found from; and all of them as a set.
 pub struct Search {
     pub threads: [u8; THREADS],
     pub parents: [u8; THREADS],
@@ -22,12 +24,14 @@ pub struct Search {
     pub seen: u32,
 }
 
+// Holds a path in the last places of an array, from the place `at` on.
 struct Back {
     cells: [u8; THREADS],
     at: usize,
 }
 
 impl Search {
+    // Returns a search that has found the start alone.
     fn begun(start: usize) -> Search
         requires { ⌜ start < THREADS ⌝ }
         ensures { λ r. ⌜ (trailOf r ≡ begin start) × Sound r × (0 < r .count) ⌝ }
@@ -43,7 +47,7 @@ impl Search {
         }
     }
 
-    // Thread n is met among the neighbours of the one at place p.
+    // Adds the thread n, met among the neighbours of the thread at the place p, unless it was found before.
     fn visit(mut self, n: usize, p: usize) -> Search
         requires { ⌜ Sound self × (n < THREADS) × (p < self .count) ⌝ }
         ensures { λ r. ⌜ (trailOf r ≡ visit p (trailOf self) n) × Sound r × (self .count ≤ r .count) ⌝ }
@@ -60,7 +64,7 @@ impl Search {
         self
     }
 
-    // All neighbours m of the thread at place p.
+    // Visits all neighbours m of the thread at the place p, upward.
     fn expand(self, m: u32, p: usize) -> Search
         requires { ⌜ Sound self × (p < self .count) ⌝ }
         ensures { λ r. ⌜ (trailOf r ≡ expand p (trailOf self) m) × Sound r × (self .count ≤ r .count) ⌝ }
@@ -75,7 +79,8 @@ impl Search {
         s
     }
 
-    // The way to the thread at a place, put down from the end of 32 cells.
+    // Returns the path from the start to the thread at a place. The parents give its end first, so it is written from
+    // the last place of the array down.
     fn back(self, place: usize) -> Back
         requires { ⌜ Sound self × (place < self .count) ⌝ }
         ensures { λ r. ⌜ (drop (r .at) (r .cells) ≡ wayBack 31 (trailOf self) place []) × (r .at < THREADS) ⌝ }
@@ -93,6 +98,7 @@ impl Search {
         Back { cells, at }
     }
 
+    // Returns the path from the start to the thread at a place as the result of the search.
     fn found(self, place: usize) -> Sought
         requires { ⌜ Sound self × (place < self .count) ⌝ }
         ensures { λ r. ⌜ r ≡ soughtOf (some (wayBack 31 (trailOf self) place [])) ⌝ }
@@ -108,7 +114,7 @@ impl Search {
     }
 }
 
-// The cells from a place on, moved to the front.
+// Returns the path that stands in the array from the place `at` on, moved to the front.
 fn lowered(cells: [u8; THREADS], at: usize) -> Path
     requires { ⌜ at < THREADS ⌝ }
     ensures { λ r. ⌜ r ≡ pathOf (drop at cells) ⌝ }
@@ -122,12 +128,13 @@ fn lowered(cells: [u8; THREADS], at: usize) -> Path
     Path { threads, len: j }
 }
 
-// A path from start to target over 32 rows.
+// Returns a path from start to target along the edges of 32 rows, or Missing if there is none. If start is target, the
+// path is that thread alone.
 pub fn find_path(edges: [u32; THREADS], start: usize, target: usize) -> Sought
     requires { ⌜ start < THREADS ⌝ }
     ensures { λ r. ⌜ r ≡ soughtOf (findPath edges start target) ⌝ }
 {
-    // Most threads that own a lock wait for nobody.
+    // Most threads that own a lock wait for nobody, so most calls end here without a search.
     if edges[start] == 0 {
         if start != target {
             return Sought::missing();

@@ -1,4 +1,4 @@
-// The wait-for graph: for each thread whom it waits for, and who waits for it.
+// The wait-for graph: for each thread the threads it waits for, and the threads that wait for it.
 ghost use mathlib.Core.Path.{_≡_};
 ghost use mathlib.Core.List.{_++_};
 ghost use Prim.Native.Nat.{_<_, _≤_};
@@ -12,18 +12,20 @@ use crate::search::find_path;
 use sets::THREADS;
 use sets::threads;
 
+// An edge from a to b means that a waits for b. It stands in both tables: b is in row a of `edges`, and a is in row b
+// of `incoming_edges`.
 pub struct WaitForGraph {
     pub edges: [u32; THREADS],
     pub incoming_edges: [u32; THREADS],
 }
 
-// The graph after an edge was added, or why it was not.
+// The graph after edges were added, and the first path that kept an edge from being stored.
 pub struct Added {
     pub graph: WaitForGraph,
     pub sought: Sought,
 }
 
-// The table with t out of each set that m names.
+// Returns the table with t taken out of row i for every i in the set m.
 fn cut_all(table: [u32; THREADS], m: u32, t: usize) -> [u32; THREADS]
     requires { ⌜ t < THREADS ⌝ }
     ensures { λ r. ⌜ r ≡ cutAll t table m ⌝ }
@@ -39,6 +41,7 @@ fn cut_all(table: [u32; THREADS], m: u32, t: usize) -> [u32; THREADS]
 }
 
 impl WaitForGraph {
+    // Returns the graph without edges.
     pub fn new() -> WaitForGraph
         ensures { λ r. ⌜ r ≡ empty ⌝ }
     {
@@ -48,7 +51,7 @@ impl WaitForGraph {
         }
     }
 
-    // Both ways.
+    // Stores the edge in both tables.
     fn stored(mut self, from: usize, to: usize) -> WaitForGraph
         requires { ⌜ (from < THREADS) × (to < THREADS) ⌝ }
         ensures { λ r. ⌜ r ≡ stored self from to ⌝ }
@@ -60,6 +63,8 @@ impl WaitForGraph {
         self
     }
 
+    // Stores the edge, unless it is there already or there is a path from `to` to `from`, so that it would close a
+    // cycle. Such a path is returned, and the graph stays as it is.
     fn add_edge(self, from: usize, to: usize) -> Added
         requires { ⌜ (from < THREADS) × (to < THREADS) ⌝ }
         ensures { λ r. ⌜ r ≡ added (addEdge self from to) ⌝ }
@@ -84,6 +89,7 @@ impl WaitForGraph {
         Added { graph, sought }
     }
 
+    // Drops every edge from the thread.
     pub fn clear_wait_edges(mut self, thread: usize) -> WaitForGraph
         requires { ⌜ thread < THREADS ⌝ }
         ensures { λ r. ⌜ r ≡ clearWaitEdges self thread ⌝ }
@@ -96,6 +102,7 @@ impl WaitForGraph {
         self
     }
 
+    // Takes the edge out of both tables. Does nothing if `edges` does not have it.
     fn remove_edge(mut self, from: usize, to: usize) -> WaitForGraph
         requires { ⌜ (from < THREADS) × (to < THREADS) ⌝ }
         ensures { λ r. ⌜ r ≡ removeEdge self from to ⌝ }
@@ -109,6 +116,7 @@ impl WaitForGraph {
         self
     }
 
+    // Drops every edge from the thread, then every edge to it that `incoming_edges` shows. No event calls this.
     pub fn remove_thread(self, thread: usize) -> WaitForGraph
         requires { ⌜ thread < THREADS ⌝ }
         ensures { λ r. ⌜ r ≡ removeThread self thread ⌝ }
@@ -122,7 +130,7 @@ impl WaitForGraph {
         g
     }
 
-    // The edges from each of the waiters to a thread go.
+    // Drops the edge from each of the waiters to the thread.
     pub fn remove_edges_to(self, waiters: u32, thread: usize) -> WaitForGraph
         requires { ⌜ thread < THREADS ⌝ }
         ensures { λ r. ⌜ r ≡ removeEdgesTo thread self (upward THREADS waiters) ⌝ }
@@ -137,7 +145,8 @@ impl WaitForGraph {
         g
     }
 
-    // An edge from t to each of a set of owners, then to the last (32: none); the first path is kept.
+    // Adds an edge from t to each of the owners, upward, then to `last` unless that is nobody. A path does not stop the
+    // owners after it, and the first path is kept.
     pub fn add_owners(self, t: usize, owners: u32, last: usize) -> Added
         requires { ⌜ (t < THREADS) × (last ≤ NOBODY) ⌝ }
         ensures { λ r. ⌜ r ≡ added (addOwners t self (upward THREADS owners ++ one last)) ⌝ }
@@ -149,6 +158,7 @@ impl WaitForGraph {
         a
     }
 
+    // Adds an edge from t to each of the owners, upward, and keeps the first path.
     fn add_all(self, t: usize, owners: u32) -> Added
         requires { ⌜ t < THREADS ⌝ }
         ensures { λ r. ⌜ r ≡ added (addOwners t self (upward THREADS owners)) ⌝ }
@@ -167,7 +177,7 @@ impl WaitForGraph {
         a
     }
 
-    // The edges from t anew.
+    // Drops every edge from t, then adds edges to the owners as `add_owners` does.
     pub fn relink(self, t: usize, owners: u32, last: usize) -> Added
         requires { ⌜ (t < THREADS) × (last ≤ NOBODY) ⌝ }
         ensures { λ r. ⌜ r ≡ added (addOwners t (clearWaitEdges self t) (upward THREADS owners ++ one last)) ⌝ }
@@ -178,7 +188,7 @@ impl WaitForGraph {
 }
 
 impl Added {
-    // One edge more; a path found before is kept.
+    // Adds the edge from t to one more owner, and keeps a path found before.
     fn add_next(self, t: usize, owner: usize) -> Added
         requires { ⌜ (t < THREADS) × (owner < THREADS) ⌝ }
         ensures { λ r. ⌜ r ≡ addNextC t self owner ⌝ }

@@ -1,4 +1,4 @@
--- What the inner calls ask passes the entries' tests.
+-- What the inner calls ask passes the tests of the calls for anybody.
 use mathlib.Core.Path.{_≡_}
 use mathlib.Core.Logic.{_⊎_, inl, inr}
 use mathlib.Core.Bool.{Bool, true, false, cond}

@@ -1,2 +1,2 @@
--- Theorems: run-taken, feed-taken, end-taken
+-- Theorems: run-taken, feed-taken, end-taken.
 pub mod Guards

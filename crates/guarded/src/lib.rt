@@ -1,4 +1,5 @@
-// The entries, for anybody: what cannot be a run, a place or a buffer is refused, and then everything is as it was.
+// The calls for anybody: each tests what the inner call of crate `transcript` asks. A call with what cannot be
+// a run, a place or a buffer is refused, and then everything stays as it was.
 use answers::END_BYTES;
 use detector::Detector;
 use text::CARRY_BYTES;
@@ -12,7 +13,7 @@ ghost use mathlib.Core.Bool.{true};
 ghost use Rattle.transcript.specs.Promises.{IsRun, FeedAsks, EndAsks};
 ghost use Rattle.guarded.specs.Promises.{runTest, feedTest, endTest, FeedsAny, EndsAny};
 
-// Whether it is a run between two bytes of a text, with its carry.
+// Returns true if the run, with this carry, can be one between two bytes of a text.
 pub fn is_run(run: Run, carry: &[u8]) -> bool
     ensures { λ r. ⌜ (r ≡ runTest run (now (carry .entry))) × (r ≡ true → IsRun run (now (carry .entry))) ⌝ }
 {
@@ -29,7 +30,7 @@ pub fn is_run(run: Run, carry: &[u8]) -> bool
     false
 }
 
-// Whether a call of feed can be taken, with a chunk, an out buffer and a report buffer of these lengths.
+// Returns true if `feed_within` may be called so, with a chunk, an out buffer and a report buffer of these lengths.
 fn may_feed(
     run: Run,
     carry: &[u8],
@@ -53,12 +54,14 @@ fn may_feed(
     false
 }
 
-// What a call of feed gives: the turn, and whether the call was taken.
+// Holds what `feed` returns: the turn, and whether the call was taken.
 pub struct Fed {
     pub turned: Turned,
     pub taken: bool,
 }
 
+// Does what `feed_within` does if the call may be taken. Otherwise returns the run and the places as they came,
+// and changes no buffer.
 pub fn feed(
     run: Run,
     carry: &mut [u8],
@@ -87,7 +90,7 @@ pub fn feed(
     }
 }
 
-// Whether a call of finish can be taken, with an out buffer of this length.
+// Returns true if `finish_within` may be called so, with an out buffer of this length.
 fn may_end(run: Run, carry: &[u8], out: usize, at: usize) -> bool
     ensures { λ r. ⌜ (r ≡ endTest run (now (carry .entry)) out at) × (r ≡ true → EndAsks run (now (carry .entry)) out at) ⌝ }
 {
@@ -106,12 +109,14 @@ fn may_end(run: Run, carry: &[u8], out: usize, at: usize) -> bool
     false
 }
 
-// What a call of finish gives: the place behind the sums, and whether the call was taken.
+// Holds what `finish` returns: the place after the totals, and whether the call was taken.
 pub struct Ended {
     pub at: usize,
     pub taken: bool,
 }
 
+// Does what `finish_within` does if the call may be taken. Otherwise returns the place as it came, and changes
+// no buffer.
 pub fn finish(run: Run, carry: &[u8], out: &mut [u8], at: usize) -> Ended
     ensures { λ r. ⌜ EndsAny run (now (carry .entry)) (now (out .entry)) at r (now (out .exit)) ⌝ }
 {

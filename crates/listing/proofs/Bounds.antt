@@ -1,4 +1,4 @@
--- How long the tables' lines are: a number below 1,000 has at most three digits.
+-- How long the lines of the tables are. A number below 1,000 has at most three digits.
 use mathlib.Core.Path.{_≡_, refl, ap, _∙_}
 use mathlib.Core.Bool.{Bool, true, false, cond}
 use mathlib.Core.Logic.{inl, inr}
@@ -34,8 +34,9 @@ use Rattle.listing.specs.Listing.{tableText, two, three, along, below, m
 use Rattle.listing.specs.Code.{tablesBytes}
 use Rattle.listing.proofs.Items.{tabbed-append}
 
--- ---- items, a tab before each
+-- ---- Items, each with a tab before it
 
+-- Returns how many bytes the items take.
 abbrev Size : List (List ℕ) → ℕ
 Size is = length (tabbed is)
 
@@ -59,7 +60,7 @@ unfolding tableText tabbed
 line-size name [] = omega arith
 line-size name (x ∷ xs) = simp length-append (omega arith)
 
--- each of k places gives at most b bytes
+-- Each of k places gives at most b bytes.
 along-size : (f : ℕ → List (List ℕ)) (b i k : ℕ) → ((j : ℕ) → i ≤ j → j < i + k → Size (f j) ≤ b) → Size (along f i k) ≤ b * k
 unfolding along tabbed
 along-size f b i zero h = omega arith
@@ -70,13 +71,13 @@ along-size f b i (suc k) h =
 below-size : (f : ℕ → List (List ℕ)) (b n k : ℕ) → n ≡ k → ((j : ℕ) → j < k → Size (f j) ≤ b) → Size (below n f) ≤ b * k
 below-size f b n k e h = rw e (along-size f b 0 k (λ j g l. h j (omega arith)))
 
--- each item of a list has at most b bytes
+-- Each item takes at most b bytes.
 map-size : {A : Type 0} (f : A → List ℕ) (b : ℕ) (xs : List A) → ((x : A) → 1 + length (f x) ≤ b) → Size (map f xs) ≤ b * length xs
 unfolding tabbed
 map-size f b [] h = omega arith
 map-size f b (x ∷ xs) h = rw (mul-suc b (length xs)) (omega (arith, size-cons (f x) (map f xs), h x, map-size f b xs h))
 
--- ---- one item
+-- ---- One item
 
 digits : (n : ℕ) → n < 1000 → length (decimal n) ≤ 3
 digits n h = decimal-short 2 n h
@@ -89,7 +90,7 @@ three-size : (a : ℕ) (m : List ℕ) (b k : ℕ) → a < 1000 → b < 1000 → 
 unfolding three
 three-size a m b k h g l = simp length-append (omega (arith, digits a h, digits b g))
 
--- ---- sets
+-- ---- Sets
 
 consIf-length : (d i k : ℕ) (l : List ℕ) → length l ≤ k → length (consIf d i l) ≤ suc k
 consIf-length zero i k l h = omega arith
@@ -121,7 +122,7 @@ sets-size : (s n : ℕ) (rows : List ℕ) → length rows ≡ n → n ≤ 64 →
 unfolding setsItems
 sets-size s n rows e h = below-size _ 512 (length rows) n e (λ j g. set-size s j (row rows j) (omega arith))
 
--- ---- the other tables
+-- ---- The other tables
 
 owner-pick : (t : Bool) (l o : ℕ) → ltb o 32 ≡ t → l < 64 → Size (cond t (two l 58 o ∷ []) []) ≤ 8
 owner-pick true l o e h = omega (arith, size-one (two l 58 o), two-size l 58 o (omega arith) (omega (arith, ltb-true o 32 e)))
@@ -141,7 +142,7 @@ readers-size c h =
     below-size (readersOf c) 384 64 64 refl
     (λ l g. below-size _ 12 32 32 refl (λ t k. reader-pick (eqb (countOf c t l) 0) l t (countOf c t l) g k (h (place t l))))
 
--- what holds of every pair holds of every pair of a part
+-- What holds of every pair of a queue holds of every pair of its first ones.
 taken : (P : Pair → Type 0) (n : ℕ) (ps : List Pair) → P noPair → ((k : ℕ) → P (getD ps k noPair)) → (k : ℕ) → P (getD (take n ps) k noPair)
 taken P zero ps p h k = p
 taken P (suc n) [] p h k = p
@@ -191,7 +192,9 @@ intents-size : (ss : List Slot) → length ss ≡ 32 → ((t : ℕ) → lockOf (
 unfolding intentsItems
 intents-size ss e v = below-size _ 16 (length ss) 32 e (λ t g. intent-size t (getD ss t noSlot .awaits) g (v t))
 
--- ---- all of them: the lengths of the code's arrays, and that a count is a byte
+-- ---- All tables
+
+-- States that the arrays of the code have these lengths, and that each reader count is a byte.
 pub record Shaped (d : Detector) : Type 0 where
   pub queues : length (d .condvars .«cv_waiters») ≡ 16
   pub edges : length (d .waits .«wait_for_graph» .edges) ≡ 32
@@ -204,13 +207,14 @@ pub record Shaped (d : Detector) : Type 0 where
   pub waits : length (d .condvars .«thread_wait_cv») ≡ 32
   pub intents : length (d .waits .«thread_waits_for») ≡ 32
 
--- a text of at most a bytes
+-- States that the text x has at most a bytes.
 record Short (x : List ℕ) (a : ℕ) : Type 0 where
   fits : length x ≤ a
 
 both : {x y : List ℕ} {a b : ℕ} → Short x a → Short y b → Short (x ++ y) (a + b)
 both {x} {y} h g = record { fits = omega (arith, length-append x y, h .fits, g .fits) }
 
+-- The name of a table has at most 16 letters, so 23 bytes are enough for all but the items.
 short : (name : List ℕ) (xs : List (List ℕ)) (b : ℕ) → length name ≤ 16 → Size xs ≤ b → Short (tableText name xs) (23 + b)
 short name xs b h g = record { fits = omega (arith, line-size name xs) }
 

@@ -1,4 +1,4 @@
--- A line of items, put item by item.
+-- The line of a table is put item by item.
 use mathlib.Core.Path.{_≡_, refl, sym, ap, _∙_}
 use mathlib.Core.Bool.{Bool, true, false}
 use mathlib.Core.List.{List, [], _∷_, _++_, map, append-assoc, append-nil}
@@ -23,11 +23,12 @@ use Rattle.listing.specs.Listing.{tableText, two, along, below, membersO
 use Rattle.listing.specs.Code.{lineBegun, opening, ending, more}
 use Rattle.listing.specs.Promises.{Roomy, Lists}
 
--- ---- what stands before an item, and an item
+-- ---- What stands before an item, and one item
 
 pub put-none : (d : List ℕ) (at : ℕ) → Put d at [] d at
 put-none d at = record { bytes = refl; place = omega arith }
 
+-- Returns the line's beginning with the tab before the first item.
 abbrev headed : List ℕ → List ℕ
 headed name = text "table\t" ++ (name ++ text "\t")
 
@@ -63,14 +64,14 @@ pub lists-none : {start at : ℕ} {name d : List ℕ} → Lists start name [] d 
 unfolding more
 lists-none = record { put = put-none _ _ }
 
--- ---- items, and then others behind them
+-- ---- Items, and others after them
 
 pub tabbed-append : (xs ys : List (List ℕ)) → tabbed (xs ++ ys) ≡ tabbed xs ++ tabbed ys
 unfolding tabbed
 tabbed-append [] ys = refl
 tabbed-append (x ∷ xs) ys = ap (λ (t : List ℕ). withTab x ++ t) (tabbed-append xs ys) ∙ sym (append-assoc (withTab x) (tabbed xs) (tabbed ys))
 
--- nothing of the line stands yet behind these items
+-- Returns true if nothing of the line has been put yet after these items.
 abbrev still : Bool → List (List ℕ) → Bool
 still new [] = new
 still new (x ∷ xs) = false
@@ -103,7 +104,9 @@ module _ {start at r : ℕ} {name : List ℕ} {xs : List (List ℕ)} {d d′ : L
 roomy-first : {start at : ℕ} {name : List ℕ} {d : List ℕ} (xs ys : List (List ℕ)) → Roomy start name (xs ++ ys) d at → Roomy start name xs d at
 roomy-first {start} {at} {name} xs ys w = record { room = room-first _ (rw (more-append (eqb at start) name xs ys) at (w .room)) }
 
--- ---- a loop over items: of all, rest is still to be put
+-- ---- A loop over items
+
+-- States that of all the items those in `rest` are still to be put.
 pub record Partly (start : ℕ) (name : List ℕ) (all rest : List (List ℕ)) (d : List ℕ) (at : ℕ) (d′ : List ℕ) (r : ℕ) : Type 0 where
   pub done : List (List ℕ)
   pub whole : all ≡ done ++ rest
@@ -135,7 +138,7 @@ module _ {start at r : ℕ} {name : List ℕ} {all rest : List (List ℕ)} {d d�
   pub partly-all : rest ≡ [] → Lists start name all d at d′ r
   partly-all e = let h : all ≡ p .done = p .whole ∙ rw (e, append-nil) in rw h (p .put)
 
--- ---- a whole line
+-- ---- A whole line
 
 whole-line : (name : List ℕ) (xs : List (List ℕ)) → tableText name xs ≡ more true name xs ++ ending (still true xs)
 unfolding tableText more lineBegun tabbed
@@ -156,7 +159,7 @@ module _ {at r : ℕ} {name : List ℕ} {xs : List (List ℕ)} {d d′ : List �
   pub closed : {d″ : List ℕ} {r′ : ℕ} → Put d′ r (ending (eqb r at)) d″ r′ → Put d at (tableText name xs) d″ r′
   closed q = rw (whole-line name xs ∙ closes) (then (p .put) q)
 
--- ---- the items of a set, the lowest first; of a table, place by place
+-- ---- The items of a set, the lowest number first, and of a table, cell by cell
 
 module _ {m j m′ : ℕ} (h : 0 < m) (g : m < 2 ^ 64) (e : j ≡ lowest 64 m) (f : m′ ≡ without m (lowest 64 m)) where
   pub members-more : membersOf m ≡ (decimal j ∷ []) ++ membersOf m′
@@ -189,7 +192,7 @@ pub partly-start : {start at : ℕ} {name : List ℕ} {all : List (List ℕ)} {d
     → Partly start name all (along f 0 (n - 0)) d at d at
 partly-start f n e h w = let z : n - 0 ≡ n = omega arith in rw (z, ← e) (partly-none h w)
 
--- ---- queues
+-- ---- Queues
 
 pub queue-more : (c k n : ℕ) (ps : List Pair) → k < n → n ≤ length ps → queueItems c (drop k (take n ps)) ≡ (pairItem c (getD ps k noPair) ∷ []) ++ queueItems c (drop (k + 1) (take n ps))
 unfolding queueItems
@@ -199,6 +202,7 @@ pub queue-none : (c k n : ℕ) (ps : List Pair) → n ≤ k → queueItems c (dr
 unfolding queueItems
 queue-none c k n ps h = let g : length (take n ps) ≤ k = omega (arith, length-take n ps) in ap (map (pairItem c)) (drop-of-length-le (take n ps) g)
 
+-- Returns the items of the queue of the condvar c.
 abbrev pub queueAt : List Queue → ℕ → List (List ℕ)
 queueAt qs c = queueItems c (getD (map pairsOf qs) c [])
 

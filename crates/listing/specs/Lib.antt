@@ -1,4 +1,4 @@
--- The tables of a state as lines of text.
+-- The lines that are printed for the tables of a state.
 pub mod Listing
 pub mod Code
 pub mod Promises

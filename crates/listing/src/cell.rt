@@ -1,4 +1,5 @@
-// The entry at one place of a table: an item, or none.
+// This module puts the item of one cell of a table. Nothing is put for an empty cell, and then the place that
+// is returned is the one that came in. The line of the table begins at `start`.
 use crate::item::put_three;
 use crate::item::put_two;
 use crate::item::put_word;
@@ -13,6 +14,7 @@ ghost use mathlib.Core.List.{[], _∷_};
 ghost use Rattle.listing.specs.Listing.{ownerItem, readerItem, pairItem, cvWaitItem, intentItem};
 ghost use Rattle.listing.specs.Promises.{Roomy, Lists};
 
+// Puts the item `lock:thread` of the lock l with the owner or writer o, if it has one, and returns the place after it.
 pub(crate) fn put_owner(
     out: &mut [u8],
     start: usize,
@@ -30,6 +32,8 @@ pub(crate) fn put_owner(
     at
 }
 
+// Puts the item `lock:thread:count` of the thread t that reads the lock l n times, if n is not 0, and returns
+// the place after it.
 pub(crate) fn put_reader(
     out: &mut [u8],
     start: usize,
@@ -48,6 +52,7 @@ pub(crate) fn put_reader(
     put_three(out, start, at, name, l, t, wide(n))
 }
 
+// Puts the item `condvar:thread:lock` of a pair in the queue of the condvar c, and returns the place after it.
 pub(crate) fn put_pair(
     out: &mut [u8],
     start: usize,
@@ -62,6 +67,7 @@ pub(crate) fn put_pair(
     put_three(out, start, at, name, c, wide(p.thread), wide(p.lock))
 }
 
+// Puts the item `thread:condvar:lock` of the cv wait of the thread t, if it has one, and returns the place after it.
 pub(crate) fn put_cv_wait(
     out: &mut [u8],
     start: usize,
@@ -79,6 +85,7 @@ pub(crate) fn put_cv_wait(
     put_three(out, start, at, name, t, wide(v.condvar), wide(v.lock))
 }
 
+// Puts the item `thread:mode:lock` of the intent of the thread t, if it has one, and returns the place after it.
 pub(crate) fn put_intent(
     out: &mut [u8],
     start: usize,

@@ -1,4 +1,5 @@
-// The items of a table's line. The line's beginning stands before the first: a table with no item has no line.
+// This module puts the items of a table's line. The line's beginning is put with the first item, so that a
+// table without items has no line.
 use text::put_byte;
 use text::put_bytes;
 use text::put_number;
@@ -10,7 +11,8 @@ ghost use Rattle.listing.specs.Listing.{two, three};
 ghost use Rattle.listing.specs.Code.{opening, ending};
 ghost use Rattle.listing.specs.Promises.{Roomy, Lists};
 
-// What stands before an item of the line that begins at start.
+// Puts what stands before an item and returns the place after it. That is a tab, and before it `table` and the
+// name if nothing of the line that begins at `start` has been put yet.
 fn put_open(out: &mut [u8], start: usize, at: usize, name: &[u8]) -> usize
     requires { ⌜ Room (now out) at (opening (eqb at start) (now name)) ⌝ }
     ensures { λ r. ⌜ Put (now (out .entry)) at (opening (eqb at start) (now (name .entry))) (now (out .exit)) r ⌝ }
@@ -23,7 +25,7 @@ fn put_open(out: &mut [u8], start: usize, at: usize, name: &[u8]) -> usize
     put_byte(out, at, b'\t')
 }
 
-// The line feed, where there is a line.
+// Puts the line feed and returns the place after it, or returns `at` if nothing of the line has been put.
 pub(crate) fn put_close(out: &mut [u8], start: usize, at: usize) -> usize
     requires { ⌜ Room (now out) at (ending (eqb at start)) ⌝ }
     ensures { λ r. ⌜ Put (now (out .entry)) at (ending (eqb at start)) (now (out .exit)) r ⌝ }
@@ -34,6 +36,7 @@ pub(crate) fn put_close(out: &mut [u8], start: usize, at: usize) -> usize
     put_byte(out, at, b'\n')
 }
 
+// Puts a number as an item and returns the place after it.
 pub(crate) fn put_one(out: &mut [u8], start: usize, at: usize, name: &[u8], a: usize) -> usize
     requires { ⌜ Roomy start (now name) (decimal a ∷ []) (now out) at ⌝ }
     ensures { λ r. ⌜ Lists start (now (name .entry)) (decimal a ∷ []) (now (out .entry)) at (now (out .exit)) r ⌝ }
@@ -42,6 +45,7 @@ pub(crate) fn put_one(out: &mut [u8], start: usize, at: usize, name: &[u8], a: u
     put_number(out, p, a)
 }
 
+// Puts two numbers with a sign between them as an item, and returns the place after it.
 pub(crate) fn put_two(
     out: &mut [u8],
     start: usize,
@@ -60,6 +64,7 @@ pub(crate) fn put_two(
     put_number(out, s, b)
 }
 
+// Puts three numbers with colons between them as an item, and returns the place after it.
 pub(crate) fn put_three(
     out: &mut [u8],
     start: usize,
@@ -80,6 +85,7 @@ pub(crate) fn put_three(
     put_number(out, u, c)
 }
 
+// Puts a number, a text and a number with colons between them as an item, and returns the place after it.
 pub(crate) fn put_word(
     out: &mut [u8],
     start: usize,

@@ -1,4 +1,4 @@
-// What the program `tables` prints of a state, put byte by byte into a buffer that the caller lends.
+// This crate puts the tables of a state, as the program `tables` prints them, into a buffer that the caller lends.
 mod cell;
 mod item;
 mod members;

@@ -1,4 +1,4 @@
-// Sets of numbers: one, and a table of them.
+// This module puts tables that are sets: a single set, or a set in each cell. Numbers go upward.
 use crate::item::put_close;
 use crate::item::put_one;
 use crate::item::put_two;
@@ -9,7 +9,7 @@ ghost use Rattle.text.specs.Promises.{Room, Put};
 ghost use Rattle.listing.specs.Listing.{tableText, membersOf, setItems, setsItems};
 ghost use Rattle.listing.specs.Promises.{Roomy, Lists};
 
-// The numbers of a set, as a whole table.
+// Puts the line of a table that is one set, with its numbers as items, and returns the place after it.
 pub(crate) fn put_members(out: &mut [u8], at: usize, name: &[u8], m: u32) -> usize
     requires { ⌜ Room (now out) at (tableText (now name) (membersOf m)) ⌝ }
     ensures { λ r. ⌜ Put (now (out .entry)) at (tableText (now (name .entry)) (membersOf m)) (now (out .exit)) r ⌝ }
@@ -24,7 +24,7 @@ pub(crate) fn put_members(out: &mut [u8], at: usize, name: &[u8], m: u32) -> usi
     put_close(out, at, to)
 }
 
-// The set at place i of a table.
+// Puts an item for each number of the set m in cell i (i, the sign, the number) and returns the place after them.
 fn put_set(
     out: &mut [u8],
     start: usize,
@@ -47,13 +47,14 @@ fn put_set(
     to
 }
 
+// Returns a set of threads in the width of a set of locks.
 fn wide(m: u32) -> u64
     ensures { λ r. ⌜ r ≡ m ⌝ }
 {
     m as u64
 }
 
-// A table of sets of threads.
+// Puts the line of a table with a set of threads in each cell, and returns the place after it.
 pub(crate) fn put_thread_sets(
     out: &mut [u8],
     at: usize,
@@ -73,7 +74,7 @@ pub(crate) fn put_thread_sets(
     put_close(out, at, to)
 }
 
-// A table of sets of locks.
+// Puts the line of a table with a set of locks in each cell, and returns the place after it.
 pub(crate) fn put_lock_sets(out: &mut [u8], at: usize, name: &[u8], sign: u8, rows: &[u64]) -> usize
     requires { ⌜ Room (now out) at (tableText (now name) (setsItems sign (now rows))) ⌝ }
     ensures { λ r. ⌜ Put (now (out .entry)) at (tableText (now (name .entry)) (setsItems sign (now (rows .entry)))) (now (out .exit)) r ⌝ }

@@ -1,4 +1,5 @@
-// The tables whose places are no sets: owners, counts, queues, waits on condvars, intents.
+// This module puts the tables whose cells are no sets. Each function returns the place after the line or the
+// items that it puts.
 use crate::cell::put_cv_wait;
 use crate::cell::put_intent;
 use crate::cell::put_owner;
@@ -21,6 +22,7 @@ ghost use Rattle.detector.specs.State.{pairsOf, Queued};
 ghost use Rattle.listing.specs.Listing.{tableText, ownersItems, readersOf, readersItems, queueItems, queuesItems, cvWaitsItems, intentsItems};
 ghost use Rattle.listing.specs.Promises.{Roomy, Lists, Queues};
 
+// Puts the line of a table with the owner or the writer of each lock.
 pub(crate) fn put_owners(out: &mut [u8], at: usize, name: &[u8], owners: &[u8]) -> usize
     requires { ⌜ Room (now out) at (tableText (now name) (ownersItems (now owners))) ⌝ }
     ensures { λ r. ⌜ Put (now (out .entry)) at (tableText (now (name .entry)) (ownersItems (now (owners .entry)))) (now (out .exit)) r ⌝ }
@@ -34,7 +36,7 @@ pub(crate) fn put_owners(out: &mut [u8], at: usize, name: &[u8], owners: &[u8]) 
     put_close(out, at, to)
 }
 
-// The readers of lock l.
+// Puts an item for each thread that reads the lock l.
 fn put_readers_of(
     out: &mut [u8],
     start: usize,
@@ -56,6 +58,7 @@ fn put_readers_of(
     to
 }
 
+// Puts the line of the reader counts, lock by lock.
 pub(crate) fn put_readers(
     out: &mut [u8],
     at: usize,
@@ -74,7 +77,7 @@ pub(crate) fn put_readers(
     put_close(out, at, to)
 }
 
-// The queue of condvar c.
+// Puts an item for each pair in the queue q of the condvar c, in the order of the queue.
 fn put_queue(out: &mut [u8], start: usize, at: usize, name: &[u8], c: usize, q: Queue) -> usize
     requires { ⌜ (start ≤ at) × Queued q × Roomy start (now name) (queueItems c (pairsOf q)) (now out) at ⌝ }
     ensures { λ r. ⌜ Lists start (now (name .entry)) (queueItems c (pairsOf q)) (now (out .entry)) at (now (out .exit)) r ⌝ }
@@ -91,6 +94,7 @@ fn put_queue(out: &mut [u8], start: usize, at: usize, name: &[u8], c: usize, q: 
     to
 }
 
+// Puts the line of the queues of all condvars.
 pub(crate) fn put_queues(
     out: &mut [u8],
     at: usize,
@@ -110,6 +114,7 @@ pub(crate) fn put_queues(
     put_close(out, at, to)
 }
 
+// Puts the line of the cv waits of all threads.
 pub(crate) fn put_cv_waits(
     out: &mut [u8],
     at: usize,
@@ -129,6 +134,7 @@ pub(crate) fn put_cv_waits(
     put_close(out, at, to)
 }
 
+// Puts the line of the intents of all threads.
 pub(crate) fn put_intents(out: &mut [u8], at: usize, name: &[u8], slots: [Slot; THREADS]) -> usize
     requires { ⌜ Room (now out) at (tableText (now name) (intentsItems slots)) ⌝ }
     ensures { λ r. ⌜ Put (now (out .entry)) at (tableText (now (name .entry)) (intentsItems slots)) (now (out .exit)) r ⌝ }

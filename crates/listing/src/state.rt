@@ -1,4 +1,5 @@
-// The tables of a state, by name.
+// This module puts all tables of a state, in the order of their names. Each function returns the place after
+// the lines that it puts.
 use crate::members::put_lock_sets;
 use crate::members::put_members;
 use crate::members::put_thread_sets;
@@ -21,9 +22,10 @@ ghost use Rattle.listing.specs.Listing.{condvarsText, graphText, mutexes
 ghost use Rattle.listing.specs.Promises.{Queues};
 ghost use Rattle.listing.specs.Code.{tablesBytes};
 
-// Room for the tables of any state.
+// The lines of all tables take at most this many bytes in any valid state.
 pub const TABLES_BYTES: usize = 120000;
 
+// Puts the lines of `cv_waiters` and `cv_woken`.
 fn put_condvars(out: &mut [u8], at: usize, queues: [Queue; Detector::CONDVARS], woken: u32) -> usize
     requires { ⌜ Queues queues × Room (now out) at (condvarsText (map pairsOf queues) woken) ⌝ }
     ensures { λ r. ⌜ Put (now (out .entry)) at (condvarsText (map pairsOf queues) woken) (now (out .exit)) r ⌝ }
@@ -32,6 +34,7 @@ fn put_condvars(out: &mut [u8], at: usize, queues: [Queue; Detector::CONDVARS], 
     put_members(out, a, b"cv_woken", woken)
 }
 
+// Puts the lines of `edges` and `incoming_edges`.
 fn put_graph(out: &mut [u8], at: usize, w: Waits) -> usize
     requires { ⌜ Room (now out) at (graphText w) ⌝ }
     ensures { λ r. ⌜ Put (now (out .entry)) at (graphText w) (now (out .exit)) r ⌝ }
@@ -43,6 +46,7 @@ fn put_graph(out: &mut [u8], at: usize, w: Waits) -> usize
     put_thread_sets(out, a, b"incoming_edges", b'<', &incoming)
 }
 
+// Puts the lines of `lock_waiters` and `mutex_owners`.
 fn put_mutexes(out: &mut [u8], at: usize, w: Waits) -> usize
     requires { ⌜ Room (now out) at (mutexesText w) ⌝ }
     ensures { λ r. ⌜ Put (now (out .entry)) at (mutexesText w) (now (out .exit)) r ⌝ }
@@ -53,6 +57,7 @@ fn put_mutexes(out: &mut [u8], at: usize, w: Waits) -> usize
     put_owners(out, a, b"mutex_owners", &owners)
 }
 
+// Puts the lines of `rwlock_readers` and `rwlock_writer`.
 fn put_rwlocks(out: &mut [u8], at: usize, w: Waits, counts: &[u8; Waits::COUNTS]) -> usize
     requires { ⌜ Room (now out) at (rwlocksText w (now counts)) ⌝ }
     ensures { λ r. ⌜ Put (now (out .entry)) at (rwlocksText w (now (counts .entry))) (now (out .exit)) r ⌝ }
@@ -62,6 +67,7 @@ fn put_rwlocks(out: &mut [u8], at: usize, w: Waits, counts: &[u8; Waits::COUNTS]
     put_owners(out, a, b"rwlock_writer", &writers)
 }
 
+// Puts the lines of `thread_holds`, `thread_wait_cv` and `thread_waits_for`.
 fn put_threads(out: &mut [u8], at: usize, w: Waits, waits: [CvWait; THREADS]) -> usize
     requires { ⌜ Room (now out) at (threadsText w waits) ⌝ }
     ensures { λ r. ⌜ Put (now (out .entry)) at (threadsText w waits) (now (out .exit)) r ⌝ }
@@ -73,6 +79,7 @@ fn put_threads(out: &mut [u8], at: usize, w: Waits, waits: [CvWait; THREADS]) ->
     put_intents(out, b, b"thread_waits_for", slots)
 }
 
+// Puts the lines of all tables into a buffer with room for those of this state.
 fn put_all(d: Detector, out: &mut [u8], at: usize) -> usize
     requires { ⌜ Valid d × Room (now out) at (tablesText (tables d)) ⌝ }
     ensures { λ r. ⌜ Put (now (out .entry)) at (tablesText (tables d)) (now (out .exit)) r ⌝ }
@@ -89,7 +96,7 @@ fn put_all(d: Detector, out: &mut [u8], at: usize) -> usize
     put_threads(out, e, w, waits)
 }
 
-// A line for each table that is not empty.
+// Puts a line for each table that is not empty into a buffer with room for those of any state.
 pub fn put_tables(d: Detector, out: &mut [u8], at: usize) -> usize
     requires { ⌜ Valid d × (at + tablesBytes ≤ length (now out)) ⌝ }
     ensures { λ r. ⌜ Put (now (out .entry)) at (tablesText (tables d)) (now (out .exit)) r × (r ≤ at + tablesBytes) ⌝ }

@@ -1,4 +1,4 @@
-// Replay: a script, an answer for each of its lines, and the sums at the end.
+// The program replay prints an answer for each line of a script, and the totals at its end.
 use runner::run_program;
 
 fn main() {

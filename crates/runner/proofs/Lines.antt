@@ -1,4 +1,4 @@
--- A part of a text: what is printed for it. With tables one line ends in it at most, and its tables stand behind its answer.
+-- What is printed for a part of a chunk. With tables at most one line ends in it, and its tables come after its answer.
 use mathlib.Core.Path.{_≡_, refl, sym, ap, ap₂, _∙_, subst}
 use mathlib.Core.Logic.{_⊎_, inl, inr}
 use mathlib.Core.Bool.{Bool, true, false, false≢true, cond}
@@ -31,13 +31,15 @@ use Rattle.runner.specs.Shown.{lineShown, shownOf, showsByte, shows, clo
 use Rattle.runner.specs.Code.{outBytes, printsWith, endsWith}
 use Rattle.runner.specs.Promises.{lineEnds, Part, Puts}
 
--- ---- a byte ends no line that is read, or it ends one
+-- ---- A byte ends a line that is read, or it ends none
 
+-- States that the byte b ends no line that is read.
 record Idle (m : Mid) (b : ℕ) : Type 0 where
   run : step m b .run ≡ m .run
   prints : printsByte m b ≡ []
   shows : showsByte m b ≡ []
 
+-- States that the byte b ends a line that is read.
 record Ends (m : Mid) (b : ℕ) : Type 0 where
   feed : eqb b lineFeed ≡ true
   run : step m b .run ≡ after (m .run) (m .part)
@@ -50,6 +52,7 @@ byte-pick false feed m b e f i l = i (record { run = rw e refl; prints = rw e re
 byte-pick true false m b e f i l = i (record { run = rw (e, f) refl; prints = rw (e, f) refl; shows = rw (e, f) refl })
 byte-pick true true m b e f i l = l (record { feed = f; run = rw (e, f) refl; prints = rw (e, f) refl; shows = rw (e, f) refl })
 
+-- One of the two holds of every byte.
 byte : {X : Type 0} (m : Mid) (b : ℕ) → (Idle m b → X) → (Ends m b → X) → X
 byte m b = byte-pick (ltb (m .run .lines) limit) (eqb b lineFeed) m b refl refl
 
@@ -60,7 +63,7 @@ ends-lines : {m : Mid} {b : ℕ} → Ends m b → step m b .run .lines ≡ m .ru
 unfolding after
 ends-lines l = ap (λ (r : Run). r .lines) (l .run)
 
--- ---- how many lines are read
+-- ---- How many lines are read
 
 lines-up : (m : Mid) (t : List ℕ) → m .run .lines ≤ fed m t .run .lines
 unfolding fed
@@ -96,7 +99,7 @@ line-ends-first (x ∷ a) b = go (eqb x lineFeed) (line-ends-first a b)
     go true h = omega arith
     go false h = h
 
--- ---- a part of a chunk, byte by byte
+-- ---- How many lines end in a part
 
 pub line-ends-more : (a : List ℕ) (b : ℕ) → lineEnds (a ++ (b ∷ [])) ≡ lineEnds a + lineEnds (b ∷ [])
 unfolding lineEnds
@@ -115,7 +118,7 @@ line-ends-byte b = go (eqb b lineFeed)
     go true = omega arith
     go false = omega arith
 
--- none ends before the first line feed
+-- No line ends before the first line feed.
 line-ends-before : (y : List ℕ) → lineEnds (upTo lineFeed y) ≡ 0
 unfolding lineEnds upTo
 line-ends-before [] = refl
@@ -125,7 +128,7 @@ line-ends-before (b ∷ y) = go (eqb b lineFeed) refl (line-ends-before y)
     go true e h = refl
     go false e h = rw e h
 
--- the part that ends behind the next line feed, or at the chunk's end
+-- The part ends after the next line feed, or at the chunk's end.
 module _ {tables : Bool} {chunk : List ℕ} {from e : ℕ} (h : from < length chunk) (q : e ≡ from + length (upTo lineFeed (drop from chunk))) where
   pub line-part : e < length chunk → Part tables chunk from (e + 1)
   line-part w =
@@ -144,8 +147,9 @@ module _ {tables : Bool} {chunk : List ℕ} {from e : ℕ} (h : from < length ch
   pub rest-part : e ≡ length chunk → Part tables chunk from e
   rest-part w = record { onward = omega arith; inside = omega arith; one = λ _. omega (arith, ap lineEnds (piece from e chunk (omega arith) q), line-ends-before (drop from chunk)) }
 
--- ---- what is printed where no line is read, and where one is
+-- ---- What is printed where no line is read, and where one is
 
+-- States that the bytes t change no tables and print nothing.
 record Quiet (m : Mid) (t : List ℕ) : Type 0 where
   run : fed m t .run ≡ m .run
   prints : prints m t ≡ []
@@ -164,6 +168,7 @@ quiet m (b ∷ t) e = byte m b (λ i. go i (quiet (step m b) t (e ∙ sym (idle-
           shows = ap₂ (λ (x y : List ℕ). x ++ y) (i .shows) (q .shows);
         }
 
+-- Where one line is read, tables prints what replay prints, and then the tables.
 single : (m : Mid) (t : List ℕ) → fed m t .run .lines ≡ m .run .lines + 1 → shows m t ≡ prints m t ++ tablesText (fed m t .run .tables)
 unfolding fed prints shows lineShown
 single m [] e = absurd (omega arith)
@@ -176,9 +181,9 @@ single m (b ∷ t) e = byte m b
         rw (l .prints, l .shows, q .prints, q .shows, q .run, l .run)
         (append-nil (lineShown (m .run) (m .part)) ∙ ap (λ (x : List ℕ). x ++ tablesText (after (m .run) (m .part) .tables)) (sym (append-nil (lineText (m .run) (m .part)))))
 
--- ---- a call of feed over a part
+-- ---- A call of `feed_within` over a part
 
--- the whole chunk, without tables
+-- Without tables the part is the rest of the chunk.
 pub whole-part : {tables : Bool} (chunk : List ℕ) (from : ℕ) → tables ≡ false → from < length chunk → Part tables chunk from (length chunk)
 whole-part chunk from e h = record { onward = h; inside = omega arith; one = λ t. absurd (false≢true (sym e ∙ t)) }
 
@@ -201,6 +206,7 @@ module _ {tables : Bool} {r : code.Run} {carry chunk : List ℕ} {from e : ℕ} 
   put : Put out 0 (prints (midOf r carry) part) out′ (t .at)
   put = subst (λ (z : List ℕ). Put out 0 (prints (midOf r carry) z) out′ (t .at)) cut (s .text)
 
+  -- Without tables, and with tables where no line ended, the text of `feed_within` is all that is put.
   pub puts-plain : tables ≡ false → Puts tables r carry chunk from out t carry′ out′
   puts-plain plain = record { moves = moves; onward = onward; text = subst (λ (z : Bool). Put out 0 (printsWith z (midOf r carry) part) out′ (t .at)) (sym plain) put; place = omega (arith, s .place, room) }
 
@@ -223,6 +229,7 @@ module _ {tables : Bool} {r : code.Run} {carry chunk : List ℕ} {from e : ℕ} 
         let text : Put out 0 (shows (midOf r carry) part) out′ (t .at) = subst (λ (z : List ℕ). Put out 0 z out′ (t .at)) (q .prints ∙ sym (q .shows)) put in
         record { moves = moves; onward = onward; text = subst (λ (z : Bool). Put out 0 (printsWith z (midOf r carry) part) out′ (t .at)) (sym asked) text; place = omega (arith, short) }
 
+    -- With tables, where a line ended, its tables are put after its answer.
     pub puts-tables : (out″ : List ℕ) (to : ℕ) → (t .run .lines ≡ r .lines → ⊥) → Put out′ (t .at) (tablesText (tables-of (t .run .detector))) out″ to → to ≤ t .at + tablesBytes
         → Puts tables r carry chunk from out (record { run = t .run; next = t .next; at = to }) carry′ out″
     puts-tables out″ to other p w =
@@ -238,14 +245,14 @@ module _ {tables : Bool} {r : code.Run} {carry chunk : List ℕ} {from e : ℕ} 
           place = omega (arith, short, w);
         }
 
--- ---- the end
+-- ---- The end
 
 pub shown-full : (r : Run) (ls : List (List ℕ)) → ltb (r .lines) limit ≡ false → shownOf r ls ≡ lastText r
 unfolding shownOf
 shown-full r [] e = refl
 shown-full r (l ∷ ls) e = rw e
 
--- no line is left to answer
+-- Where no line is left to answer, only the totals are printed.
 pub closes-closed : (r : code.Run) (carry : List ℕ) → (r .have ≡ 0) ⊎ (r .lines ≡ limit) → closes (midOf r carry) ≡ lastText (runOf r)
 unfolding closes shownOf
 closes-closed r carry (inl e) = ap (λ (h : ℕ). shownOf (runOf r) (lastLine (take h carry))) e

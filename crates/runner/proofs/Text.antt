@@ -1,4 +1,4 @@
--- THE TEXT THEOREM of tables: the text in whatever chunks prints what the definition says of it.
+-- THE TEXT THEOREM of tables: a text in any chunks prints what the definition gives for the whole text.
 use mathlib.Core.Path.{_≡_, refl, sym, ap, _∙_}
 use mathlib.Core.Bool.{Bool, true, false, cond}
 use mathlib.Core.List.{List, [], _∷_, _++_, append-assoc, append-nil}
@@ -18,7 +18,7 @@ use Rattle.runner.specs.Shown.{lineShown, shownOf, shownText, showsByte,
 use Rattle.runner.specs.Promises.{lineEnds}
 use Rattle.runner.proofs.Lines.{line-ends-more, shown-full}
 
--- ---- chunks are their concatenation
+-- ---- Chunks print as they do joined
 
 shows-append : (m : Mid) (a b : List ℕ) → shows m (a ++ b) ≡ shows m a ++ shows (fed m a) b
 unfolding fed shows
@@ -30,7 +30,7 @@ unfolding showsAll shows together
 shows-joined m [] = refl
 shows-joined m (t ∷ ts) = ap (λ (x : List ℕ). shows m t ++ x) (shows-joined (fed m t) ts) ∙ sym (shows-append m t (together ts))
 
--- ---- a line cut where the carry ends shows as the whole line
+-- ---- The carry of a line is shown as the whole line
 
 line-cut : (r : Run) (p : List ℕ) → lineShown r (take carryBytes p) ≡ lineShown r p
 unfolding lineShown lineText
@@ -41,7 +41,7 @@ unfolding shownOf
 last-cut r [] = refl
 last-cut r (b ∷ p) = rw (line-cut r (b ∷ p), after-cut r (b ∷ p)) refl
 
--- ---- the lines of a text that begins with a part in which no line ends
+-- ---- The lines of a text that begins with bytes in which no line ends
 
 other : (x : ℕ) (p : List ℕ) → lineEnds (x ∷ p) ≡ 0 → (eqb x lineFeed ≡ false) × (lineEnds p ≡ 0)
 unfolding lineEnds
@@ -66,12 +66,14 @@ line-ends-none : (p : List ℕ) (b : ℕ) → lineEnds p ≡ 0 → eqb b lineFee
 unfolding lineEnds
 line-ends-none p b h e = line-ends-more p b ∙ rw (h, e) refl
 
--- ---- the theorem, from any line so far and any run
+-- ---- The theorem, from any line that is not whole yet and any run
 
 shown-line : (r : Run) (l : List ℕ) (ls : List (List ℕ)) → ltb (r .lines) limit ≡ true → shownOf r (l ∷ ls) ≡ lineShown r l ++ shownOf (after r l) ls
 unfolding shownOf
 shown-line r l ls e = rw e
 
+-- States that what is printed for t, with the bytes p of a line that is not whole yet before it, is the text of
+-- its lines.
 Whole : List ℕ → Type 0
 Whole t = (p : List ℕ) → lineEnds p ≡ 0 → (r : Run) → shows (mid (take carryBytes p) r) t ++ closes (fed (mid (take carryBytes p) r) t) ≡ shownOf r (linesOf (p ++ t))
 

@@ -5,16 +5,16 @@ use mathlib.Core.List.{List}
 use Rattle.transcript.specs.Chunks.{Mid, prints, ends}
 use Rattle.runner.specs.Shown.{shows, closes}
 
--- the bytes of the buffer for answers, tables and the sums
+-- The out buffer, for answers, tables and totals, has this many bytes.
 abbrev pub outBytes : ℕ
 outBytes = 131072
 
--- what is printed for a chunk
+-- Returns what is printed for a chunk.
 abbrev pub printsWith : Bool → Mid → List ℕ → List ℕ
 printsWith true = shows
 printsWith false = prints
 
--- and at the text's end
+-- Returns what is printed at the text's end.
 abbrev pub endsWith : Bool → Mid → List ℕ
 endsWith true = closes
 endsWith false = ends

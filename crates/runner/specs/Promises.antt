@@ -13,18 +13,18 @@ use Rattle.transcript.specs.declared.run.Run.{Run}
 use Rattle.transcript.specs.declared.run.Turned.{Turned}
 use Rattle.runner.specs.Code.{outBytes, printsWith}
 
--- how many lines end in a text
+-- Returns how many lines end in a text.
 unfoldable pub lineEnds : List ℕ → ℕ
 lineEnds [] = 0
 lineEnds (b ∷ t) = cond (eqb b lineFeed) (suc (lineEnds t)) (lineEnds t)
 
--- a part of the chunk, in which with tables one line ends at most
+-- States that the chunk has this part, and that with tables at most one line ends in it.
 pub record Part (tables : Bool) (chunk : List ℕ) (from to : ℕ) : Type 0 where
   pub onward : from < to
   pub inside : to ≤ length chunk
   pub one : tables ≡ true → lineEnds (between from to chunk) ≤ 1
 
--- at least a byte of the chunk, and what is printed up to t .next
+-- States that at least one byte of the chunk was taken, and that the text up to `t .next` was put.
 pub record Puts (tables : Bool) (r : Run) (carry chunk : List ℕ) (from : ℕ) (out : List ℕ) (t : Turned) (carry′ out′ : List ℕ) : Type 0 where
   pub moves : Moves r carry chunk from (t .next) (t .run) carry′
   pub onward : from < t .next

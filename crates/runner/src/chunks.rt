@@ -1,4 +1,4 @@
-// A script, chunk by chunk.
+// This module runs one script, chunk by chunk.
 use crate::part::put_part;
 use transcript::LIMIT;
 use transcript::Run;
@@ -21,23 +21,25 @@ ghost use Rattle.transcript.specs.Promises.{IsRun};
 ghost use Rattle.transcript.specs.Code.{midOf};
 ghost use Rattle.runner.specs.Code.{outBytes, endsWith};
 
-// No contract can say what is read: this count of turns bounds the loop that reads.
+// The loop that reads needs a bound, because no contract can state what is read. No script comes near this
+// number of turns.
 const TURNS: u64 = 18446744073709551615;
 
-// What is held between two reads; open says that all that had to be written could be.
+// Holds the run between two reads, and whether all that had to be written could be.
 struct Held {
     run: Run,
     open: bool,
 }
 
-// How a script ended: with its sums, or where no more could be read or written.
+// Tells how a script ended: with its totals, or where no more could be read or written.
 pub(crate) enum Ending {
     Ended,
     NotRead,
     NotWritten,
 }
 
-// A chunk, as far as lines are read; what is put is written before more is.
+// Takes a chunk part by part, as far as lines are read, and writes what each part puts before it takes the
+// next. Returns the run after it; if something could not be written, the rest is not taken and `open` is false.
 fn take_chunk(
     tables: bool,
     run: Run,
@@ -69,7 +71,8 @@ fn take_chunk(
     Held { run: r, open: true }
 }
 
-// The sums, where no line is left to answer: with and without tables the same text.
+// Writes the totals, which are the same text with tables and without, and returns how the script ended. No line
+// may be left to answer.
 fn end(run: Run, carry: &[u8], out: &mut [u8]) -> Ending
     requires { ⌜ IsRun run (now carry) × ((run .have ≡ 0) ⊎ (run .lines ≡ limit)) × (length (now out) ≡ outBytes) ⌝ }
     ensures { λ _. ⌜ ((tables : Bool) → now (out .exit) ≡ sets (now (out .entry)) 0 (endsWith tables (midOf run (now (carry .entry))))) ⌝ }
@@ -81,7 +84,8 @@ fn end(run: Run, carry: &[u8], out: &mut [u8]) -> Ending
     Ending::NotWritten
 }
 
-// What is read, or, when the input is over, the line feed that the last line lacks.
+// Reads a chunk and returns the number of its bytes, or a negative number if reading failed. When the input is
+// over, the chunk is the line feed that the last line lacks.
 fn next_chunk(fd: i32, over: bool, inp: &mut [u8]) -> isize
     requires { ⌜ 0 < length (now inp) ⌝ }
     ensures { λ r. ⌜ (over ≡ true → (r ≡ pos 1) × (take 1 (now (inp .exit)) ≡ lineFeed ∷ [])) ⌝ }
@@ -93,7 +97,7 @@ fn next_chunk(fd: i32, over: bool, inp: &mut [u8]) -> isize
     libc::read(fd, inp)
 }
 
-// From the empty state to the sums.
+// Runs the script that is read from fd, from the empty state to the totals, and returns how it ended.
 pub(crate) fn run_script(
     tables: bool,
     fd: i32,

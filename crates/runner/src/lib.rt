@@ -1,5 +1,5 @@
-// What replay and tables do alike: a script, an answer for each of its lines, where they are asked for all tables behind it, and
-// the sums at the end.
+// What the programs replay and tables have in common: they read scripts, print an answer for each line, after
+// it all tables if they are asked for, and at a script's end the totals.
 mod chunks;
 mod help;
 mod part;

@@ -1,4 +1,5 @@
-// A part of a chunk: as many lines as it has, or one where tables are to stand behind its answer.
+// This module takes a part of a chunk: as many lines as the chunk has, or one line if tables are printed after
+// its answer.
 use listing::put_tables;
 use text::up_to;
 use transcript::Run;
@@ -13,7 +14,8 @@ ghost use Rattle.transcript.specs.Promises.{IsRun};
 ghost use Rattle.runner.specs.Code.{outBytes};
 ghost use Rattle.runner.specs.Promises.{Part, Puts};
 
-// With tables: behind the line feed of the line that starts at from, or the chunk's end.
+// Returns where the part that starts at `from` ends: without tables at the chunk's end, with tables after the
+// next line feed, or at the chunk's end if there is none.
 fn part_end(tables: bool, chunk: &[u8], from: usize) -> usize
     requires { ⌜ from < length (now chunk) ⌝ }
     ensures { λ r. ⌜ Part tables (now (chunk .entry)) from r ⌝ }
@@ -28,8 +30,9 @@ fn part_end(tables: bool, chunk: &[u8], from: usize) -> usize
     end
 }
 
-// The lines that end in the part are answered, and what it has of the next one is carried. The one call of feed_within in a
-// program: the compiler then builds it into the loop that reads.
+// Puts the answers to the lines that end in the part, with tables if they are asked for, and carries what the
+// part has of the next line. This is the only call of `feed_within` in a program, so the compiler builds it
+// into the loop that reads.
 pub(crate) fn put_part(
     tables: bool,
     run: Run,

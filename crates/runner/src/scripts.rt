@@ -1,4 +1,4 @@
-// The scripts of a program: those that it is given by name, or one on standard input.
+// This module runs the scripts of a program: those that it is given by name, or one on standard input.
 use crate::chunks::Ending;
 use crate::chunks::run_script;
 use detector::Detector;
@@ -10,17 +10,17 @@ ghost use Rattle.detector.specs.Refusals.{bufferBytes};
 ghost use Rattle.text.specs.Lines.{carryBytes};
 ghost use Rattle.runner.specs.Code.{outBytes};
 
-// Room for a line's answer and its tables, and for the sums.
+// The out buffer has room for an answer with all tables after it, and for the totals.
 const OUT_BYTES: usize = 131072;
 
-// Zeros.
+// Returns an out buffer of zeros.
 fn out_buffer() -> [u8; OUT_BYTES]
     ensures { λ r. ⌜ outBytes ≡ length r ⌝ }
 {
     [0; OUT_BYTES]
 }
 
-// Two lines on standard error: which script cannot be read and why, and what the program takes.
+// Prints two lines on standard error: which script cannot be read and why, and what the program takes.
 fn refuse(program: &[u8], name: &[u8]) {
     io::write_all(libc::STDERR_FILENO, program);
     io::write_all(libc::STDERR_FILENO, b": cannot read ");
@@ -32,7 +32,7 @@ fn refuse(program: &[u8], name: &[u8]) {
     );
 }
 
-// Says what failed, and answers whether more can be written.
+// Prints on standard error what failed, and returns true if more can be written.
 fn explain(program: &[u8], name: &[u8], ending: Ending) -> bool {
     match ending {
         Ending::Ended => true,
@@ -48,6 +48,8 @@ fn explain(program: &[u8], name: &[u8], ending: Ending) -> bool {
     }
 }
 
+// Runs the script that argument i names, and returns true if more can be written. A script that cannot be read
+// does not stop the ones after it.
 fn run_file(
     program: &[u8],
     tables: bool,
@@ -72,7 +74,7 @@ fn run_file(
     more
 }
 
-// Each script from the empty state.
+// Runs each script from the empty state, and stops where nothing more can be written.
 pub(crate) fn run_scripts(program: &[u8], tables: bool) {
     let mut inp = io::large_buffer();
     let mut out = out_buffer();

@@ -10,6 +10,8 @@ use Rattle.waits.specs.declared.outcome.Outcome.the-variants as outcome
 use Rattle.detector.specs.declared.event.Event.the-variants as event
 use Rattle.script.specs.declared.line.Line.the-variants as line
 
+-- ---- Lines that read
+
 took : lineOf (text "ma\t1\t5\ttook") ≡ line.Event (event.MutexAttempt 1 5 outcome.Took)
 unfolding lineOf fields parts shapeOf afterWord afterOne afterTwo numberOf digitsFrom outcomeOf same
 took = refl
@@ -33,6 +35,8 @@ condvar = refl
 notify : lineOf (text "c1\t0") ≡ line.Event (event.CondvarNotifyOne 0)
 unfolding lineOf fields parts shapeOf afterWord afterOne afterTwo numberOf digitsFrom outcomeOf same
 notify = refl
+
+-- ---- Lines that do not read
 
 four-digits : lineOf (text "mc\t1000\t0") ≡ line.Unreadable
 unfolding lineOf fields parts shapeOf afterWord afterOne afterTwo numberOf digitsFrom outcomeOf same

@@ -1,4 +1,4 @@
--- An event's line as the parts that are put one behind the other, and its length.
+-- An event's line consists of parts that are put one after the other, and has a longest length.
 use mathlib.Core.Path.{_≡_, sym, ap, _∙_}
 use mathlib.Core.List.{List, [], _∷_, _++_, append-nil}
 use Prim.Native.Nat.{ℕ, suc, _+_, _<_, _≤_, _^_}
@@ -16,6 +16,7 @@ use Rattle.script.specs.declared.print.Record.{Record}
 use Rattle.script.specs.declared.print.Record.the-variants as held
 use Rattle.script.proofs.Table.{spelling}
 
+-- Returns the line of a word and its fields as the code has them.
 abbrev heldText : Record → List ℕ
 heldText (held.One k a) = letters k ++ withTab (decimal a)
 heldText (held.Two k a b) = letters k ++ (withTab (decimal a) ++ withTab (decimal b))
@@ -27,7 +28,7 @@ parts-held (one w a) = ap (λ (x : List ℕ). x ++ tabbed (decimal a ∷ [])) (s
 parts-held (two w a b) = ap (λ (x : List ℕ). x ++ tabbed (decimal a ∷ decimal b ∷ [])) (spelling w .letters-are) ∙ rw append-nil
 parts-held (three w a b o) = ap (λ (x : List ℕ). x ++ tabbed (decimal a ∷ decimal b ∷ outcomeText o ∷ [])) (spelling w .letters-are) ∙ rw append-nil
 
--- what the code holds of the event e is x
+-- Here x is what the code has of the event e.
 module _ (e : Event) (x : Record) (i : x ≡ keyed (partsOf e)) where
   event-held : eventText e ≡ heldText x
   unfolding eventText
@@ -42,7 +43,7 @@ module _ (e : Event) (x : Record) (i : x ≡ keyed (partsOf e)) where
   pub event-three : (k a b : ℕ) (o : Outcome) → x ≡ held.Three k a b o → eventText e ≡ letters k ++ (withTab (decimal a) ++ (withTab (decimal b) ++ withTab (outcomeText o)))
   event-three k a b o h = event-held ∙ ap heldText h
 
--- ---- the length, for any numbers of 64 bits
+-- ---- The length, for any numbers of 64 bits
 
 wide : (n : ℕ) → n < 2 ^ 64 → length (withTab (decimal n)) ≤ 21
 wide n h = omega (arith, decimal-bound n h)

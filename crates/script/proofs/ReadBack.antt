@@ -1,5 +1,4 @@
 -- A printed event whose numbers have at most three digits reads back as itself.
--- ---- a number below 1,000: a test that is computed for each, and the law that it gives
 use mathlib.Core.Path.{_≡_, refl, sym, ap, _∙_}
 use mathlib.Core.Bool.{Bool, true, false, cond, true≢false}
 use mathlib.Core.Logic.{⊎-elim}
@@ -33,19 +32,25 @@ use Rattle.script.specs.declared.line.Line.the-variants as line
 use Rattle.text.proofs.Cut.{tabless, allTabless, cut-joined}
 use Rattle.script.proofs.Table.{spelling}
 
+-- ---- The numbers below 1,000: a test that is computed for each of them, and the law that it gives
+
+-- Returns true if a number was read and it is n.
 abbrev isNumber : ℕ → NumberRead → Bool
 isNumber n (number.Is m) = eqb m n
 isNumber n number.Bad = false
 
+-- Returns true if a hint was read and it is n.
 abbrev isHint : ℕ → OutcomeRead → Bool
 isHint n (outcome.Is came.Took) = false
 isHint n (outcome.Is came.Blocked) = false
 isHint n (outcome.Is (came.Hinted m)) = eqb m n
 isHint n outcome.Bad = false
 
+-- Returns true if n, printed, reads back as a number and as a hint, and holds no tab.
 abbrev good : ℕ → Bool
 good n = cond (isNumber n (numberOf (decimal n))) (cond (isHint n (outcomeOf (decimal n))) (tabless (decimal n)) false) false
 
+-- Returns true if all numbers below k pass this test.
 abbrev goodBelow : ℕ → Bool
 goodBelow zero = true
 goodBelow (suc k) = cond (good k) (goodBelow k) false
@@ -103,9 +108,9 @@ outcome-short came.Took h = omega arith
 outcome-short came.Blocked h = omega arith
 outcome-short (came.Hinted n) h = omega (arith, number-short n (h 0))
 
--- ---- the words
+-- ---- The words
 
--- the event that a word makes of what stands behind it
+-- Returns what a word makes of the fields after it.
 abbrev made : Parts → Line
 made (one w a) = shape w .one a
 made (two w a b) = shape w .two a b
@@ -132,7 +137,7 @@ made-event (event.CondvarNotifyOne c) = refl
 made-event (event.CondvarNotifyAll c) = refl
 made-event (event.CondvarWaitEnd t c l) = refl
 
--- a line of at most 40 bytes whose fields hold no tab
+-- A line of at most 40 bytes whose fields hold no tab reads by its fields.
 joined-read : (w : Word) (fs : List (List ℕ)) → allTabless fs → length (joined (spelled w ∷ fs)) ≤ 40 → lineOf (joined (spelled w ∷ fs)) ≡ afterWord (shape w) fs
 unfolding lineOf
 joined-read w fs g h = rw (le-leb (length (joined (spelled w ∷ fs))) 40 h, cut-joined (spelled w) fs (spelling w .no-tab) g, spelling w .found)
@@ -152,7 +157,7 @@ parts-back (three w a b o) h =
     joined-read w (decimal a ∷ decimal b ∷ outcomeText o ∷ []) (number-tabless a (h 0), (number-tabless b (h 1), (outcome-tabless o (λ i. h (suc (suc i))), omega arith))) (simp (length-append, two-letters) (omega (arith, number-short a (h 0), number-short b (h 1), outcome-short o (λ i. h (suc (suc i))))))
     ∙ rw (number-back a (h 0), number-back b (h 1), outcome-back o (λ i. h (suc (suc i))))
 
--- one statement for all words: an event with numbers of at most 999, printed, reads back as itself
+-- For every word at once: an event with numbers of at most 999, printed, reads back as itself.
 pub reads-back : (e : Event) → EventBelow 1000 e → lineOf (eventText e) ≡ line.Event e
 unfolding eventText
 reads-back e h = parts-back (partsOf e) h ∙ made-event e

@@ -1,4 +1,4 @@
--- A field at a time: what the definitions make of the fields from a place on, by the field that stands there.
+-- Reading goes field by field: what the definitions make of the fields from a place on follows from the field there.
 use mathlib.Core.Path.{_≡_, refl, sym, _∙_}
 use mathlib.Core.Bool.{Bool, true, false}
 use mathlib.Core.List.{List}
@@ -19,6 +19,7 @@ use Rattle.script.specs.declared.outcome.OutcomeRead.the-variants as out
 use Rattle.script.specs.declared.line.Line.the-variants as line
 use Rattle.text.proofs.Cut.{field-then, field-last, field-more}
 
+-- Here f is the field that starts at `at` in the line l, after a word of shape s and the numbers read so far.
 module _ (s : Shape) (l f : List ℕ) (at : ℕ) (i : f ≡ fieldAt l at) (a : ℕ) where
   pub word-bad : numberOf f ≡ number.Bad → line.Unreadable ≡ afterWord s (fields (drop at l))
   unfolding afterWord
@@ -57,6 +58,8 @@ module _ (s : Shape) (l f : List ℕ) (at : ℕ) (i : f ≡ fieldAt l at) (a : �
     unfolding afterTwo
     two-is o e h g = rw (field-last l f at i h g, e)
 
+-- ---- A whole line
+
 pub line-long : (l : List ℕ) → 40 < length l → line.Unreadable ≡ lineOf l
 unfolding lineOf
 line-long l h = rw (lt-leb (length l) 40 h)
@@ -72,7 +75,7 @@ module _ (l f : List ℕ) (i : f ≡ fieldAt l 0) (h : length l ≤ 40) where
       let e : 0 + length f + 1 ≡ length f + 1 = omega arith in
       rw (le-leb (length l) 40 h, field-more l f 0 i (omega arith), e)
 
--- ---- a line cut at 41 bytes reads as the whole line
+-- ---- A line of which only the first 41 bytes are kept reads as the whole line
 
 cut : (t : Bool) (p : List ℕ) → leb (length p) 41 ≡ t → lineOf (take 41 p) ≡ lineOf p
 cut true p e = rw (take-all 41 p (leb-true (length p) 41 e))

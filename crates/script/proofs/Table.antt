@@ -1,4 +1,4 @@
--- The table of words by the numbers that the code has for them.
+-- The words are found by the numbers that the code has for them.
 use mathlib.Core.Path.{_≡_, refl, sym, ap, _∙_}
 use mathlib.Core.Bool.{Bool, true, false, cond}
 use mathlib.Core.List.{List, [], _∷_}
@@ -14,7 +14,8 @@ use Rattle.text.proofs.Cut.{tabless}
 use Rattle.waits.specs.declared.outcome.Outcome.{Outcome}
 use Rattle.script.specs.declared.line.Line.{Line}
 
--- ---- each word: its letters are those of its number, which fits two bytes and is not 0, it has no tab, and it is found
+-- States that the letters of a word are those of its number, which fits two bytes and is not 0, that they hold
+-- no tab, and that they find the shape of this word.
 pub record Spelled (w : Word) : Type 0 where
   pub letters-are : spelled w ≡ letters (key w)
   pub some : ltb 0 (key w) ≡ true
@@ -22,6 +23,7 @@ pub record Spelled (w : Word) : Type 0 where
   pub no-tab : tabless (spelled w) ≡ true
   pub found : shapeOf (spelled w) ≡ shape w
 
+-- Returns these facts as one record.
 abbrev known : {w : Word} → spelled w ≡ letters (key w) → ltb 0 (key w) ≡ true → ltb (key w) 65536 ≡ true → tabless (spelled w) ≡ true → shapeOf (spelled w) ≡ shape w → Spelled w
 known a b c d e = record { letters-are = a; some = b; small = c; no-tab = d; found = e }
 
@@ -46,7 +48,7 @@ spelling c1 = known refl refl refl refl refl
 spelling ca = known refl refl refl refl refl
 spelling ce = known refl refl refl refl refl
 
--- ---- a text's number
+-- ---- The number of a text
 
 pub key-none : (w : List ℕ) → (length w ≡ 2 → ⊥) → 0 ≡ keyOf w
 key-none [] h = refl
@@ -82,12 +84,14 @@ same-letters (a ∷ []) k h p s = first (eqb a (k / 256 % 256)) ∙ sym (ne-eqb 
 same-letters (a ∷ b ∷ []) k h p s = pair (eqb a (k / 256 % 256)) (eqb b (k % 256)) a b k (h 0) (h 1) s refl refl
 same-letters (a ∷ b ∷ c ∷ f) k h p s = first-only (eqb a (k / 256 % 256)) (eqb b (k % 256)) ∙ sym (ne-eqb 0 k (λ q. omega arith))
 
--- ---- the shape by the number
+-- ---- The shape, found by the number
 
+-- Returns the shape of the word among ws whose number is k, or noWord if there is none.
 abbrev shapeBy : List Word → ℕ → Shape
 shapeBy [] k = noWord
 shapeBy (w ∷ ws) k = cond (eqb k (key w)) (shape w) (shapeBy ws k)
 
+-- Returns the shape of the word whose number is k, or noWord if there is none.
 unfoldable pub shapeFor : ℕ → Shape
 shapeFor k = shapeBy words k
 
@@ -101,7 +105,7 @@ pub shape-at : (f : List ℕ) (k : ℕ) → ((i : ℕ) → getD f i 0 < 256) →
 unfolding shapeOf shapeFor
 shape-at f k h e = by-number words f h ∙ ap (λ (n : ℕ). shapeBy words n) (sym e)
 
--- ---- a test before a field of a shape
+-- ---- A field of a shape that depends on a test
 
 pub one-pick : (t : Bool) (s r : Shape) (a : ℕ) → cond t s r .one a ≡ cond t (s .one a) (r .one a)
 one-pick true s r a = refl

@@ -1,4 +1,4 @@
--- A line of the script: "the word, then its fields", "at most 40 bytes before the line feed".
+-- A line of a script has at most 40 bytes, its line feed not counted: a word and the fields after it.
 use Prim.Native.Nat.{ℕ}
 use mathlib.Core.Bool.{cond}
 use mathlib.Core.List.{List, [], _∷_}
@@ -16,37 +16,42 @@ use Rattle.script.specs.declared.outcome.OutcomeRead.the-variants as out
 use Rattle.script.specs.declared.line.Line.{Line}
 use Rattle.script.specs.declared.line.Line.the-variants as line
 
+-- Returns what f makes of a number that was read, or Unreadable if none was.
 abbrev pub onNumber : NumberRead → (ℕ → Line) → Line
 onNumber (number.Is a) f = f a
 onNumber number.Bad f = line.Unreadable
 
+-- Returns what f makes of an outcome that was read, or Unreadable if none was.
 abbrev pub onOutcome : OutcomeRead → (Outcome → Line) → Line
 onOutcome (outcome.Is o) f = f o
 onOutcome outcome.Bad f = line.Unreadable
 
--- the fields behind a word of shape s and two numbers; behind it and one number; behind it alone
+-- Returns what a word of shape s and the numbers a and b make with the fields that are left.
 unfoldable pub afterTwo : Shape → List (List ℕ) → ℕ → ℕ → Line
 afterTwo s [] a b = s .two a b
 afterTwo s (f ∷ []) a b = onOutcome (outcomeOf f) (s .three a b)
 afterTwo s (f ∷ g ∷ fs) a b = line.Unreadable
 
+-- Returns what a word of shape s and the number a make with the fields that are left.
 unfoldable pub afterOne : Shape → List (List ℕ) → ℕ → Line
 afterOne s [] a = s .one a
 afterOne s (f ∷ fs) a = onNumber (numberOf f) (afterTwo s fs a)
 
+-- Returns what a word of shape s makes with the fields after it.
 unfoldable pub afterWord : Shape → List (List ℕ) → Line
 afterWord s [] = line.Unreadable
 afterWord s (f ∷ fs) = onNumber (numberOf f) (afterOne s fs)
 
+-- Returns what the fields of a line make, the first of which is its word.
 abbrev pub recordOf : List (List ℕ) → Line
 recordOf [] = line.Unreadable
 recordOf (w ∷ fs) = afterWord (shapeOf w) fs
 
--- the line l, without its line feed
+-- Returns what the line l, given without its line feed, reads as.
 unfoldable pub lineOf : List ℕ → Line
 lineOf l = cond (leb (length l) 40) (recordOf (fields l)) line.Unreadable
 
--- a line's refusal by document 01: 1 where it does not read, else none, here 0
+-- Returns refusal 1 for a line that does not read, and 0, which is no refusal, for one that does.
 abbrev pub lineRefusal : Line → ℕ
 lineRefusal (line.Event e) = 0
 lineRefusal line.Unreadable = 1

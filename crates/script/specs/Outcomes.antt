@@ -1,4 +1,5 @@
--- "Outcome o is `took`, `-`, or a hint number."
+-- The outcome of a try is the text `took`, a dash if it blocked, or a hint: the number of the thread that was
+-- seen to own the lock.
 use Prim.Native.Nat.{ℕ}
 use mathlib.Core.Bool.{cond}
 use mathlib.Core.List.{List}
@@ -10,10 +11,11 @@ use Rattle.waits.specs.declared.outcome.Outcome.the-variants.{Took, Blocked, Hi
 use Rattle.script.specs.declared.outcome.OutcomeRead.{OutcomeRead}
 use Rattle.script.specs.declared.outcome.OutcomeRead.the-variants as outcome
 
--- a number as a hint
+-- Returns a number that was read as a hint.
 abbrev pub asHint : NumberRead → OutcomeRead
 asHint (number.Is h) = outcome.Is (Hinted h)
 asHint number.Bad = outcome.Bad
 
+-- Returns the outcome that a field spells, or Bad if it spells none.
 unfoldable pub outcomeOf : List ℕ → OutcomeRead
 outcomeOf s = cond (same s (text "took")) (outcome.Is Took) (cond (same s (text "-")) (outcome.Is Blocked) (asHint (numberOf s)))

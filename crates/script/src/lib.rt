@@ -1,4 +1,4 @@
-// The script: a line to the event that it says, and an event to its line.
+// This crate reads a line of a script as an event, and prints an event as a line.
 mod line;
 mod outcome;
 mod print;

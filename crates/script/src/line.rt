@@ -1,4 +1,4 @@
-// A line, without its line feed, to its event.
+// This module reads a line, given without its line feed, as an event.
 use crate::outcome::OutcomeRead;
 use crate::outcome::read_outcome;
 use crate::words;
@@ -15,12 +15,13 @@ ghost use Rattle.text.specs.Fields.{fields};
 ghost use Rattle.script.specs.Words.{noHint, asNumber, shapeOf};
 ghost use Rattle.script.specs.Lines.{afterTwo, afterOne, afterWord, lineOf};
 
+// A line reads as an event, or it does not read, which is refusal 1.
 pub enum Line {
     Event(Event),
     Unreadable,
 }
 
-// A word with one number behind it.
+// Returns the event of the word w with one number after it, or Unreadable if w takes other fields or is no word.
 fn one(w: &[u8], a: usize) -> Line
     ensures { λ r. ⌜ r ≡ shapeOf (now (w .entry)) .one a ⌝ }
 {
@@ -36,7 +37,7 @@ fn one(w: &[u8], a: usize) -> Line
     }
 }
 
-// A word with two numbers behind it.
+// Returns the event of the word w with two numbers after it, or Unreadable if w takes other fields or is no word.
 fn two(w: &[u8], t: usize, l: usize) -> Line
     ensures { λ r. ⌜ r ≡ shapeOf (now (w .entry)) .two t l ⌝ }
 {
@@ -52,7 +53,7 @@ fn two(w: &[u8], t: usize, l: usize) -> Line
     }
 }
 
-// rt knows no hint.
+// Returns the event of `rt`, or Unreadable if the outcome is a hint, which `rt` does not take.
 fn read_try(t: usize, l: usize, o: Outcome) -> Line
     ensures { λ r. ⌜ r ≡ noHint (Event.RwReadTry t l) o ⌝ }
 {
@@ -63,7 +64,8 @@ fn read_try(t: usize, l: usize, o: Outcome) -> Line
     }
 }
 
-// The third field of cb and ce is a lock: a number, as a hint is.
+// Returns the event of `cb`, or Unreadable if its third field is no number. That field is a lock and was read
+// as an outcome, so its number comes as a hint.
 fn wait_begin(t: usize, c: usize, o: Outcome) -> Line
     ensures { λ r. ⌜ r ≡ asNumber (Event.CondvarWaitBegin t c) o ⌝ }
 {
@@ -74,6 +76,7 @@ fn wait_begin(t: usize, c: usize, o: Outcome) -> Line
     }
 }
 
+// Returns the event of `ce`, or Unreadable if its third field, a lock too, is no number.
 fn wait_end(t: usize, c: usize, o: Outcome) -> Line
     ensures { λ r. ⌜ r ≡ asNumber (Event.CondvarWaitEnd t c) o ⌝ }
 {
@@ -84,7 +87,8 @@ fn wait_end(t: usize, c: usize, o: Outcome) -> Line
     }
 }
 
-// A word with two numbers and a third field, read as an outcome.
+// Returns the event of the word w with two numbers and an outcome after it, or Unreadable if w takes other
+// fields or is no word.
 fn three(w: &[u8], a: usize, b: usize, o: Outcome) -> Line
     ensures { λ r. ⌜ r ≡ shapeOf (now (w .entry)) .three a b o ⌝ }
 {
@@ -100,7 +104,8 @@ fn three(w: &[u8], a: usize, b: usize, o: Outcome) -> Line
     }
 }
 
-// The third field behind the word w, from at on: the last.
+// Reads the third field after the word w, which starts at `at` and must be the last. Returns the event, or
+// Unreadable if there is none.
 fn after_two(line: &[u8], w: &[u8], a: usize, b: usize, at: usize) -> Line
     requires { ⌜ at ≤ length (now line) ⌝ }
     ensures { λ r. ⌜ r ≡ afterTwo (shapeOf (now (w .entry))) (fields (drop at (now (line .entry)))) a b ⌝ }
@@ -116,7 +121,8 @@ fn after_two(line: &[u8], w: &[u8], a: usize, b: usize, at: usize) -> Line
     three(w, a, b, o)
 }
 
-// The second field.
+// Reads the second field after the word w, which starts at `at`, and the field after it if there is one.
+// Returns the event, or Unreadable if there is none.
 fn after_one(line: &[u8], w: &[u8], a: usize, at: usize) -> Line
     requires { ⌜ at ≤ length (now line) ⌝ }
     ensures { λ r. ⌜ r ≡ afterOne (shapeOf (now (w .entry))) (fields (drop at (now (line .entry)))) a ⌝ }
@@ -133,7 +139,8 @@ fn after_one(line: &[u8], w: &[u8], a: usize, at: usize) -> Line
     two(w, a, b)
 }
 
-// The first field.
+// Reads the fields after the word w, the first of which starts at `at`. Returns the event, or Unreadable if
+// there is none.
 fn after_word(line: &[u8], w: &[u8], at: usize) -> Line
     requires { ⌜ at ≤ length (now line) ⌝ }
     ensures { λ r. ⌜ r ≡ afterWord (shapeOf (now (w .entry))) (fields (drop at (now (line .entry)))) ⌝ }
@@ -150,7 +157,7 @@ fn after_word(line: &[u8], w: &[u8], at: usize) -> Line
     one(w, a)
 }
 
-// The event of a line, or that it does not read: refusal 1.
+// Returns the event of a line, or Unreadable if it has more than 40 bytes or its word and fields make no event.
 pub fn read_line(line: &[u8]) -> Line
     ensures { λ r. ⌜ r ≡ lineOf (now (line .entry)) ⌝ }
 {

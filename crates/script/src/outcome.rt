@@ -1,4 +1,5 @@
-// How a try came out: `took`, `-`, or a hint number.
+// This module reads how a try came out: `took`, `-` for blocked, or a hint, which is the number of the thread
+// that was seen to own the lock.
 use text::NumberRead;
 use text::equal;
 use text::read_number;
@@ -6,11 +7,13 @@ use waits::Outcome;
 ghost use mathlib.Core.Path.{_≡_};
 ghost use Rattle.script.specs.Outcomes.{outcomeOf};
 
+// A field reads as an outcome, or it spells none.
 pub enum OutcomeRead {
     Is(Outcome),
     Bad,
 }
 
+// Returns the outcome that a field spells, or Bad if it spells none.
 pub(crate) fn read_outcome(s: &[u8]) -> OutcomeRead
     ensures { λ r. ⌜ r ≡ outcomeOf (now (s .entry)) ⌝ }
 {

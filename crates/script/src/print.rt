@@ -1,4 +1,4 @@
-// An event to its line, put into a buffer that the caller lends.
+// This module puts an event as a line of a script into a buffer that the caller lends.
 use crate::words;
 use detector::Event;
 use text::put_byte;
@@ -12,16 +12,17 @@ ghost use Rattle.text.specs.Promises.{Room, Put};
 ghost use Rattle.script.specs.Printed.{asOutcome, partsOf, outcomeText, eventText};
 ghost use Rattle.script.specs.Code.{letters, keyed};
 
-// Room for an event with any numbers.
+// The line of any event takes at most this many bytes, whatever its numbers are.
 pub const EVENT_BYTES: usize = 65;
 
-// A word and what stands behind it.
+// Holds a word, as its number, and the fields after it: one number, two, or two and an outcome.
 pub enum Record {
     One(u32, usize),
     Two(u32, usize, usize),
     Three(u32, usize, usize, Outcome),
 }
 
+// Returns the outcome that is printed for a try of `rt`.
 fn as_outcome(o: Tried) -> Outcome
     ensures { λ r. ⌜ r ≡ asOutcome o ⌝ }
 {
@@ -31,6 +32,7 @@ fn as_outcome(o: Tried) -> Outcome
     }
 }
 
+// Returns the word of an event and its fields. The lock of `cb` and `ce` is printed as a hint is.
 fn record_of(e: Event) -> Record
     ensures { λ r. ⌜ r ≡ keyed (partsOf e) ⌝ }
 {
@@ -56,6 +58,7 @@ fn record_of(e: Event) -> Record
     }
 }
 
+// Puts the two letters of the word whose number is k, and returns the place after them.
 fn put_word(out: &mut [u8], at: usize, k: u32) -> usize
     requires { ⌜ Room (now out) at (letters k) ⌝ }
     ensures { λ r. ⌜ Put (now (out .entry)) at (letters k) (now (out .exit)) r ⌝ }
@@ -64,7 +67,7 @@ fn put_word(out: &mut [u8], at: usize, k: u32) -> usize
     put_byte(out, a, (k % 256) as u8)
 }
 
-// A tab and the outcome.
+// Puts a tab and an outcome, and returns the place after it.
 fn put_outcome(out: &mut [u8], at: usize, o: Outcome) -> usize
     requires { ⌜ Room (now out) at (withTab (outcomeText o)) ⌝ }
     ensures { λ r. ⌜ Put (now (out .entry)) at (withTab (outcomeText o)) (now (out .exit)) r ⌝ }
@@ -76,7 +79,7 @@ fn put_outcome(out: &mut [u8], at: usize, o: Outcome) -> usize
     }
 }
 
-// The line of an event, without a line feed.
+// Puts the line of an event without a line feed, and returns the place after it.
 pub fn put_event(out: &mut [u8], at: usize, e: Event) -> usize
     requires { ⌜ Room (now out) at (eventText e) ⌝ }
     ensures { λ r. ⌜ Put (now (out .entry)) at (eventText e) (now (out .exit)) r ⌝ }

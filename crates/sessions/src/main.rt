@@ -1,5 +1,5 @@
-// Document 01's worked sessions and limit cases, through the public entry. A line for each event: `ok` and the number of
-// reports, or `no` and the refusal; then the bytes of the first report.
+// This program runs the sessions worked by hand, and events at the limits, through the public call `step`. For each
+// event it prints `ok` and the number of reports, or `no` and the refusal, and then the bytes of the first report.
 ghost use Prim.Native.Nat.{_<_};
 use detector::Count;
 use detector::Detector;
@@ -9,21 +9,24 @@ use waits::Outcome;
 use waits::Tried;
 use waits::Waits;
 
+// Returns the byte's value, which the contract keeps below 256.
 fn wide(x: u8) -> usize
     ensures { λ r. ⌜ r < 256 ⌝ }
 {
     x as usize
 }
 
+// Writes a text to standard output.
 fn print(text: &[u8]) {
     io::write_all(1, text);
 }
 
+// Writes a number in decimal to standard output.
 fn print_number(n: usize) {
     io::print_decimal(1, n as u64);
 }
 
-// The bytes of the first report.
+// Prints the bytes of the first report: the number of its entries, and then the entries.
 fn show_report(buf: &[u8; Detector::BUFFER_BYTES]) {
     let n = wide(buf[0]);
     let mut i: usize = 0;
@@ -36,6 +39,7 @@ fn show_report(buf: &[u8; Detector::BUFFER_BYTES]) {
     }
 }
 
+// Prints a reply as a line, with the bytes of the first report if there is one.
 fn show(reply: Reply, buf: &[u8; Detector::BUFFER_BYTES]) {
     match reply {
         Reply::Reports(n) => {
@@ -54,6 +58,7 @@ fn show(reply: Reply, buf: &[u8; Detector::BUFFER_BYTES]) {
     print(b"\n");
 }
 
+// Returns the state after one event, and prints what the call gave back.
 fn play(d: Detector, e: Event) -> Detector {
     let mut buf = [0u8; Detector::BUFFER_BYTES];
     let a = d.step(e, &mut buf);
@@ -62,7 +67,7 @@ fn play(d: Detector, e: Event) -> Detector {
     a.detector
 }
 
-// The same event n times, with nothing printed.
+// Returns the state after n equal events, and prints nothing.
 fn quietly(d0: Detector, e: Event, n: usize) -> Detector {
     let mut d = d0;
     let mut i = 0;
@@ -75,6 +80,7 @@ fn quietly(d0: Detector, e: Event, n: usize) -> Detector {
     d
 }
 
+// Session 1: two threads each hold a mutex that the other wants.
 fn p1() {
     print(b"P1: two mutexes taken in turns\n");
     let mut d = Detector::new();
@@ -85,7 +91,7 @@ fn p1() {
     totals(d);
 }
 
-// Edges stored and stuck threads; of a state that is not valid only the edges.
+// Prints how many edges are stored and how many threads are stuck; of a state that is not valid only the edges.
 fn totals(d: Detector) {
     print(b"edges ");
     print_number(d.edges_stored());
@@ -97,6 +103,8 @@ fn totals(d: Detector) {
     print(b"\n");
 }
 
+// Session 2: a thread locks its own mutex again, which the filter keeps from being reported. With a reader of
+// that lock it is reported.
 fn p2() {
     print(b"P2: relock, then with a reader between\n");
     let mut d = Detector::new();
@@ -110,6 +118,7 @@ fn p2() {
     totals(d);
 }
 
+// Session 3: a thread that reads a lock wants to write it.
 fn p3() {
     print(b"P3: a reader that writes\n");
     let mut d = Detector::new();
@@ -118,6 +127,7 @@ fn p3() {
     totals(d);
 }
 
+// Session 4: two threads that read a lock both want to write it.
 fn p4() {
     print(b"P4: two readers that write\n");
     let mut d = Detector::new();
@@ -129,6 +139,7 @@ fn p4() {
     totals(d);
 }
 
+// Session 5: a thread reads a lock twice, so only its second release drops the edge to it.
 fn p5() {
     print(b"P5: a read counted twice\n");
     let mut d = Detector::new();
@@ -141,6 +152,7 @@ fn p5() {
     totals(d);
 }
 
+// Session 6: a lock is destroyed while a thread awaits it, and the edge of this thread stays.
 fn p6() {
     print(b"P6: a lock destroyed under its waiter\n");
     let mut d = Detector::new();
@@ -152,6 +164,7 @@ fn p6() {
     totals(d);
 }
 
+// Session 7: a reader comes while a writer waits, and no edge from the writer to it is stored.
 fn p7() {
     print(b"P7: a reader who arrives while a writer waits\n");
     let mut d = Detector::new();
@@ -163,6 +176,7 @@ fn p7() {
     totals(d);
 }
 
+// Session 8: a thread is woken and waits for the mutex; the end of its wait drops the edge.
 fn p8() {
     print(b"P8: a thread woken\n");
     let mut d = Detector::new();
@@ -174,6 +188,7 @@ fn p8() {
     totals(d);
 }
 
+// Session 9: a blocked write of a lock that nobody has leaves no intent.
 fn p9() {
     print(b"P9: a write of a free lock\n");
     let mut d = Detector::new();
@@ -181,6 +196,7 @@ fn p9() {
     totals(d);
 }
 
+// Session 10: the highest numbers are accepted, and the next ones are refused.
 fn p10() {
     print(b"P10: the last numbers, and the first outside\n");
     let mut d = Detector::new();
@@ -194,7 +210,7 @@ fn p10() {
     totals(d);
 }
 
-// The words that P1 to P10 leave out, in sessions of our own.
+// Runs words about mutexes and rwlocks that sessions 1 to 10 leave out.
 fn ours_locks() {
     print(b"ours: wc, wr, mc, mr, md\n");
     let mut d = Detector::new();
@@ -214,6 +230,7 @@ fn ours_locks() {
     totals(d);
 }
 
+// Runs words about reads and condvars that sessions 1 to 10 leave out.
 fn ours_condvars() {
     print(b"ours: rc, cn, cd, ca\n");
     let mut d = Detector::new();
@@ -232,6 +249,7 @@ fn ours_condvars() {
     totals(d);
 }
 
+// Fills a queue: the 33rd pair is refused, and another queue still takes one.
 fn full_queue() {
     print(b"the 33rd cb\n");
     let new = Detector::new();
@@ -241,6 +259,7 @@ fn full_queue() {
     totals(d);
 }
 
+// Fills a reader count: each event that would count a 256th read is refused, and tries that do not count are served.
 fn full_count() {
     print(b"the 256th read\n");
     let new = Detector::new();
@@ -253,6 +272,7 @@ fn full_count() {
     totals(d);
 }
 
+// Lends a report buffer that is one byte too short: the event is refused, and the buffer stays as it was.
 fn short_buffer() {
     print(b"a buffer of 2,079 bytes\n");
     let d = Detector::new();
@@ -264,6 +284,7 @@ fn short_buffer() {
     print(b"\n");
 }
 
+// Gives a hint on a free lock, and prints the owner that it records.
 fn hint() {
     print(b"a hint on a free lock records its owner\n");
     let mut d = Detector::new();
@@ -273,6 +294,7 @@ fn hint() {
     print(b"\n");
 }
 
+// Runs events in a state that is not valid: refusal 2 comes before refusal 3.
 fn lent() {
     print(b"a lent state with an owner of 33\n");
     let mut d = Detector::new();

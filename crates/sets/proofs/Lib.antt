@@ -1,4 +1,4 @@
--- Laws of the definitions, each stated once: over the index, the width or the list.
+-- Laws of the definitions. Each is stated once, for every index, width or list.
 pub mod Digits
 pub mod Walk
 pub mod Lists

@@ -10,7 +10,7 @@ use lib.ListN.{length}
 use borrow.Author.Tests.{eqb-true, eqb-false, eq-eqb}
 use Rattle.sets.specs.Lists.{In, among, Distinct}
 
--- ---- the test tells what stands in the list
+-- ---- The test `among` is true exactly for what stands in the list
 
 pub among-in : (x : ℕ) (l : List ℕ) → among x l ≡ true → In x l
 unfolding among
@@ -30,12 +30,12 @@ in-among x (y ∷ l) (inr m) = go (eqb x y) (in-among x l m)
     go true h = refl
     go false h = h
 
--- two tests, the second where the first holds
+-- If a test and, where it is true, a second one give true, both are true.
 pub both : (a b : Bool) → cond a b false ≡ true → (a ≡ true) × (b ≡ true)
 both true b e = (refl, e)
 both false b e = absurd (false≢true e)
 
--- ---- two lists joined
+-- ---- What stands in two lists joined stands in one of them
 
 pub in-left : (x : ℕ) (a b : List ℕ) → In x a → In x (a ++ b)
 in-left x (y ∷ a) b (inl e) = inl e
@@ -50,13 +50,14 @@ in-either x [] b m = inr m
 in-either x (y ∷ a) b (inl e) = inl (inl e)
 in-either x (y ∷ a) b (inr m) = elim (in-either x a b m) [ inl l ↦ inl (inr l) | inr r ↦ inr r ]
 
--- ---- a list of distinct numbers below n is no longer than n
+-- ---- A list of distinct numbers below n is no longer than n
 
--- the list without n
+-- Returns the list without every n in it.
 but : ℕ → List ℕ → List ℕ
 but n [] = []
 but n (x ∷ l) = cond (eqb x n) (but n l) (x ∷ but n l)
 
+-- What is left stood in the list and is not n.
 but-in : (n x : ℕ) (l : List ℕ) → In x (but n l) → In x l × (x ≢ n)
 unfolding but
 but-in n x (y ∷ l) m = go (but-in n x l) (eqb y n) refl m
@@ -66,6 +67,7 @@ but-in n x (y ∷ l) m = go (but-in n x l) (eqb y n) refl m
     go r false e (inl h) = (inl h, λ k. eqb-false y n e (sym h ∙ k))
     go r false e (inr m) = (inr (r m .0), r m .1)
 
+-- Distinct numbers stay distinct.
 but-distinct : (n : ℕ) (l : List ℕ) → Distinct l → Distinct (but n l)
 unfolding but
 but-distinct n [] d = tt
@@ -75,6 +77,7 @@ but-distinct n (y ∷ l) d = go (eqb y n) (but-distinct n l (d .1))
     go true r = r
     go false r = (λ m. d .0 (but-in n y l m .0), r)
 
+-- A list without n stays as it is.
 but-absent : (n : ℕ) (l : List ℕ) → (In n l → ⊥) → but n l ≡ l
 unfolding but
 but-absent n [] d = refl
@@ -84,6 +87,7 @@ but-absent n (y ∷ l) d = go (eqb y n) refl (but-absent n l (λ m. d (inr m)))
     go true e r = absurd (d (inl (sym (eqb-true y n e))))
     go false e r = rw r
 
+-- A list of distinct numbers loses one at most.
 but-length : (n : ℕ) (l : List ℕ) → Distinct l → length l ≤ suc (length (but n l))
 unfolding but
 but-length n [] d = omega arith
@@ -93,6 +97,7 @@ but-length n (y ∷ l) d = go (eqb y n) refl (but-length n l (d .1))
     go true e r = rw (but-absent n l (rw (eqb-true y n e) at (d .0))) (omega arith)
     go false e r = omega arith
 
+-- Distinct numbers below n are at most n.
 pub pigeon : (n : ℕ) (l : List ℕ) → Distinct l → ((x : ℕ) → In x l → x < n) → length l ≤ n
 pigeon zero [] d b = omega arith
 pigeon zero (x ∷ l) d b = absurd (omega (arith, b x (inl refl)))

@@ -1,4 +1,4 @@
--- What a set of small numbers is, and the words for lists and numbers that the other crates' definitions share.
+-- What a set of small numbers is, and the definitions on lists and numbers that the other crates share.
 pub mod Limits
 pub mod Sets
 pub mod Lists

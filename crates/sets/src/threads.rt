@@ -1,9 +1,10 @@
-// Sets of threads, numbers below 32, each set a u32.
+// Sets of threads. A thread is a number below 32, and a set of threads is a u32.
 ghost use mathlib.Core.Path.{_≡_};
 ghost use Prim.Native.Nat.{_<_};
 ghost use Rattle.sets.specs.Limits.{THREADS};
 ghost use Rattle.sets.specs.Sets.{has, with, without, lowest};
 
+// Returns true if the thread i is in the set m.
 pub fn has(m: u32, i: usize) -> bool
     requires { ⌜ i < THREADS ⌝ }
     ensures { λ r. ⌜ r ≡ has m i ⌝ }
@@ -11,6 +12,7 @@ pub fn has(m: u32, i: usize) -> bool
     (m >> i) % 2 == 1
 }
 
+// Returns the set m with the thread i added.
 pub fn with(m: u32, i: usize) -> u32
     requires { ⌜ i < THREADS ⌝ }
     ensures { λ r. ⌜ r ≡ with m i ⌝ }
@@ -18,6 +20,7 @@ pub fn with(m: u32, i: usize) -> u32
     m | (1 << i)
 }
 
+// Returns the set m with the thread i taken out.
 pub fn without(m: u32, i: usize) -> u32
     requires { ⌜ i < THREADS ⌝ }
     ensures { λ r. ⌜ r ≡ without m i ⌝ }
@@ -25,7 +28,8 @@ pub fn without(m: u32, i: usize) -> u32
     m & !(1 << i)
 }
 
-// The walk over a set goes upward: the lowest number, then the rest.
+// Returns the lowest thread in the set m, which must not be empty. A walk over a set takes the lowest number, then goes
+// on with `rest`, so every walk goes upward.
 pub fn lowest(m: u32) -> usize
     requires { ⌜ 0 < m ⌝ }
     ensures { λ r. ⌜ (r ≡ lowest THREADS m) × (r < THREADS) ⌝ }
@@ -33,6 +37,7 @@ pub fn lowest(m: u32) -> usize
     u32::trailing_zeros(m) as usize
 }
 
+// Returns the set m without its lowest thread. The set m must not be empty.
 pub fn rest(m: u32) -> u32
     requires { ⌜ 0 < m ⌝ }
     ensures { λ r. ⌜ (r ≡ without m (lowest THREADS m)) × (r < m) ⌝ }

@@ -1,4 +1,4 @@
-// Tables: a script, an answer for each of its lines with the tables after it, and the sums at the end.
+// The program tables prints an answer for each line of a script with all tables after it, and the totals at its end.
 use runner::run_program;
 
 fn main() {

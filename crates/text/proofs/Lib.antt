@@ -1,7 +1,7 @@
--- Laws of the definitions. Reading
+-- Laws of the definitions. The first three files are about reading.
 pub mod Cut
 pub mod Numbers
 pub mod Kept
--- Printing
+-- These are about printing.
 pub mod Puts
 pub mod Digits

@@ -1,4 +1,4 @@
--- Numbers and outcomes digit by digit.
+-- Numbers read digit by digit, and texts compared byte by byte.
 use mathlib.Core.Path.{_≡_, refl, ap}
 use mathlib.Core.Bool.{Bool, true, false, cond}
 use mathlib.Core.List.{List, [], _∷_}
@@ -14,6 +14,7 @@ use Rattle.text.specs.Bytes.{same}
 use Rattle.text.specs.declared.number.NumberRead.{NumberRead}
 use Rattle.text.specs.declared.number.NumberRead.the-variants as number
 
+-- No bytes, too many, and a 0 that is followed by more are no numbers.
 pub number-none : (s : List ℕ) → length s ≡ 0 → number.Bad ≡ numberOf s
 unfolding numberOf
 number-none [] h = refl
@@ -35,6 +36,7 @@ number-zero [] h e = absurd (omega arith)
 number-zero (a ∷ []) h e = absurd (omega arith)
 number-zero (a ∷ b ∷ bs) h e = rw (eq-eqb _ _ e)
 
+-- One digit, and up to three that do not start with 0, are read digit by digit.
 pub number-one : (s : List ℕ) → 0 < length s → length s ≤ 1 → digitsFrom 0 s ≡ numberOf s
 unfolding numberOf
 number-one [] h g = absurd (omega arith)
@@ -48,6 +50,7 @@ number-more (a ∷ []) h g e = absurd (omega arith)
 number-more (a ∷ b ∷ bs) h g e = rw (ne-eqb _ _ e, le-ltb 1 (length bs) (omega arith))
 
 module _ (v : ℕ) (s : List ℕ) (i : ℕ) (h : i < length s) where
+  -- A byte below or above the digits makes the number Bad, and a digit is read on.
   pub digit-low : getD s i 0 < 48 → number.Bad ≡ digitsFrom v (drop i s)
   unfolding digitsFrom
   digit-low g = rw (drop-cons s i 0 h, lt-ltb _ _ g)
@@ -60,10 +63,12 @@ module _ (v : ℕ) (s : List ℕ) (i : ℕ) (h : i < length s) where
   unfolding digitsFrom
   digit-on g k = rw (drop-cons s i 0 h, le-ltb (getD s i 0) 48 g, le-ltb 57 (getD s i 0) k, add-one)
 
+-- After the last digit the value is the number.
 pub digits-end : (v : ℕ) (s : List ℕ) → digitsFrom v (drop (length s) s) ≡ number.Is v
 unfolding digitsFrom
 digits-end v s = rw (drop-length s)
 
+-- A value of i digits with one more digit has at most i + 1 digits, and before the last digit it is below 100.
 pub grows : (i v w : ℕ) → i < 3 → v < 10 ^ i → w < 10 → v * 10 + w < 10 ^ (i + 1)
 grows zero v w h g k = omega arith
 grows (suc zero) v w h g k = omega arith
@@ -76,8 +81,9 @@ below-hundred (suc zero) v h g = omega arith
 below-hundred (suc (suc zero)) v h g = omega arith
 below-hundred (suc (suc (suc i))) v h g = absurd (omega arith)
 
--- ---- two texts from i on
+-- ---- Two texts from the place i on
 
+-- Texts of different length differ.
 pub same-short : (s t : List ℕ) → (length s ≡ length t → ⊥) → false ≡ same s t
 unfolding same
 same-short [] [] h = absurd (h refl)
@@ -90,6 +96,7 @@ same-short (a ∷ s) (b ∷ t) h = either (eqb a b) _ (same-short s t (λ e. h (
     either false x e = refl
 
 module _ (s t : List ℕ) (i : ℕ) (h : i < length s) (g : i < length t) where
+  -- They differ if their bytes at i do; if not, the places after i decide.
   pub same-not : (getD s i 0 ≡ getD t i 0 → ⊥) → false ≡ same (drop i s) (drop i t)
   unfolding same
   same-not e = rw (drop-cons s i 0 h, drop-cons t i 0 g, ne-eqb _ _ e)
@@ -98,6 +105,7 @@ module _ (s t : List ℕ) (i : ℕ) (h : i < length s) (g : i < length t) where
   unfolding same
   same-on e = rw (drop-cons s i 0 h, drop-cons t i 0 g, eq-eqb _ _ e, add-one)
 
+-- At the end they are the same.
 pub same-end : (s t : List ℕ) (i : ℕ) → length s ≤ i → length s ≡ length t → true ≡ same (drop i s) (drop i t)
 unfolding same
 same-end s t i h g = let k : length t ≤ i = omega arith in rw (drop-of-length-le s h, drop-of-length-le t k)

@@ -6,18 +6,20 @@ use mathlib.Core.Bool.{Bool, true, false, cond}
 use mathlib.Core.List.{List, [], _∷_}
 use lib.Dec.{eqb}
 
--- the bytes of a quoted text
+-- Returns the bytes of a quoted text.
 abbrev pub text : String → List ℕ
 text end = []
 text (c then s) = code c ∷ text s
 
+-- Parts the fields of a line.
 abbrev pub tab : ℕ
 tab = code "\t"
 
+-- Ends a line.
 abbrev pub lineFeed : ℕ
 lineFeed = code "\n"
 
--- two texts are the same
+-- Returns true if the two texts have the same length and the same bytes.
 unfoldable pub same : List ℕ → List ℕ → Bool
 same [] [] = true
 same [] (b ∷ t) = false

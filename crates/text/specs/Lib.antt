@@ -1,4 +1,4 @@
--- Text as bytes: what reading and printing share, the reading half, the printing half, and the promises.
+-- Text as bytes: what reading and printing share, then reading, then printing, and the promises of the calls.
 pub mod Bytes
 pub mod Fields
 pub mod Lines

@@ -1,4 +1,5 @@
--- The lines of a text: each ends with its line feed, the last may lack it, and "nothing behind the last line feed is no line".
+-- The lines of a text. A line ends with a line feed, which is no part of it, or with the text. After a line feed at the
+-- end of the text there is no further line.
 use Prim.Native.Nat.{ℕ}
 use mathlib.Core.Bool.{cond}
 use mathlib.Core.List.{List, [], _∷_}
@@ -6,11 +7,12 @@ use lib.Dec.{eqb}
 use Rattle.text.specs.Bytes.{lineFeed}
 use Rattle.text.specs.Fields.{onFirst}
 
--- a byte stands at the front of the first line behind it, and is a line of its own where there is none
+-- Returns the lines of a text. A byte that is no line feed is put at the front of the line that follows it, or is a
+-- line of its own if none follows.
 unfoldable pub linesOf : List ℕ → List (List ℕ)
 linesOf [] = []
 linesOf (b ∷ t) = cond (eqb b lineFeed) ([] ∷ linesOf t) (onFirst b (linesOf t))
 
--- the bytes that are carried of a line: one more than a line may have tells that it is too long
+-- The most bytes carried of a line: one more than a line may have, so that a full carry shows a line that is too long.
 abbrev pub carryBytes : ℕ
 carryBytes = 41

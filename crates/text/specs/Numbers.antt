@@ -1,4 +1,4 @@
--- "Numbers have one to three digits, no leading zero but for 0 itself."
+-- A number in a script has one, two or three digits and does not start with 0, unless it is 0 itself.
 use Prim.Native.Nat.{ℕ, _+_, _*_, _-_}
 use Prim.Native.Char.{code}
 use mathlib.Core.Bool.{cond}
@@ -8,12 +8,12 @@ use lib.ListN.{length}
 use Rattle.text.specs.declared.number.NumberRead.{NumberRead}
 use Rattle.text.specs.declared.number.NumberRead.the-variants as number
 
--- digits, read on from the value v
+-- Returns the number read when the value so far is v and these digits follow, or Bad if one of them is no digit.
 unfoldable pub digitsFrom : ℕ → List ℕ → NumberRead
 digitsFrom v [] = number.Is v
 digitsFrom v (b ∷ bs) = cond (ltb b (code "0")) number.Bad (cond (ltb (code "9") b) number.Bad (digitsFrom (v * 10 + (b - code "0")) bs))
 
--- one digit, or two or three of which the first is not 0
+-- Returns the number that the bytes spell: one digit, or two or three of which the first is not 0. Else returns Bad.
 unfoldable pub numberOf : List ℕ → NumberRead
 numberOf [] = number.Bad
 numberOf (a ∷ []) = digitsFrom 0 (a ∷ [])

@@ -5,10 +5,11 @@ ghost use Prim.Native.Nat.{_≤_};
 ghost use lib.ListN.{length, take};
 ghost use Rattle.text.specs.Lines.{carryBytes};
 
-// The bytes that are carried of a line: one more than a line may have tells that it is too long.
+// The most bytes carried of a line: one more than a line may have, so that a full carry shows a line that is too long.
 pub const CARRY_BYTES: usize = 41;
 
-// The part goes behind what is carried, as far as there is room.
+// Puts the bytes of `part` after the `have` bytes carried already, as far as there is room, and returns how many bytes
+// are carried then. Bytes that find no room are dropped.
 pub fn keep(carry: &mut [u8], have: usize, part: &[u8]) -> usize
     requires { ⌜ (length (now carry) ≡ carryBytes) × (have ≤ carryBytes) ⌝ }
     ensures { λ r. ⌜ (r ≤ carryBytes) × (take r (now (carry .exit)) ≡ take carryBytes (take have (now (carry .entry)) ++ now (part .entry))) ⌝ }

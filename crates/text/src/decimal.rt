@@ -1,4 +1,4 @@
-// Numbers in decimal.
+// Numbers printed in decimal.
 use crate::put::put_byte;
 ghost use mathlib.Core.Path.{_≡_};
 ghost use Prim.Native.Nat.{_+_, _<_};
@@ -6,6 +6,7 @@ ghost use lib.ListN.{length};
 ghost use Rattle.text.specs.Decimal.{digit, decimal, withTab};
 ghost use Rattle.text.specs.Promises.{Room, Put};
 
+// Returns the byte that prints the digit d.
 fn glyph(d: usize) -> u8
     requires { ⌜ d < 10 ⌝ }
     ensures { λ r. ⌜ r ≡ digit d ⌝ }
@@ -13,7 +14,7 @@ fn glyph(d: usize) -> u8
     b'0' + d as u8
 }
 
-// How many digits n has.
+// Returns how many digits n has.
 fn places(n: usize) -> usize
     ensures { λ r. ⌜ r ≡ length (decimal n) ⌝ }
 {
@@ -26,7 +27,7 @@ fn places(n: usize) -> usize
     k
 }
 
-// The last digit first, from the place k behind at down.
+// Puts the k digits of n into the buffer from the place `at` on. The last digit is written first.
 fn put_digits(out: &mut [u8], at: usize, n: usize, k: usize)
     requires { ⌜ (k ≡ length (decimal n)) × (Room (now out) at (decimal n)) ⌝ }
     ensures { λ _. ⌜ Put (now (out .entry)) at (decimal n) (now (out .exit)) (at + k) ⌝ }
@@ -41,6 +42,7 @@ fn put_digits(out: &mut [u8], at: usize, n: usize, k: usize)
     out[at] = glyph(rest);
 }
 
+// Puts the digits of n into the buffer from the place `at` on, and returns the place after them.
 pub fn put_number(out: &mut [u8], at: usize, n: usize) -> usize
     requires { ⌜ Room (now out) at (decimal n) ⌝ }
     ensures { λ r. ⌜ Put (now (out .entry)) at (decimal n) (now (out .exit)) r ⌝ }
@@ -50,7 +52,7 @@ pub fn put_number(out: &mut [u8], at: usize, n: usize) -> usize
     at + k
 }
 
-// A tab and a number.
+// Puts a tab and the digits of n into the buffer from the place `at` on, and returns the place after them.
 pub fn put_field(out: &mut [u8], at: usize, n: usize) -> usize
     requires { ⌜ Room (now out) at (withTab (decimal n)) ⌝ }
     ensures { λ r. ⌜ Put (now (out .entry)) at (withTab (decimal n)) (now (out .exit)) r ⌝ }

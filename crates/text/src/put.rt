@@ -1,7 +1,8 @@
-// Bytes put at a place of the buffer; each function answers the place behind them.
+// Bytes put into a buffer.
 ghost use mathlib.Core.List.{[], _∷_};
 ghost use Rattle.text.specs.Promises.{Room, Put};
 
+// Puts one byte at the place `at`, and returns the place after it.
 pub fn put_byte(out: &mut [u8], at: usize, b: u8) -> usize
     requires { ⌜ Room (now out) at (b ∷ []) ⌝ }
     ensures { λ r. ⌜ Put (now (out .entry)) at (b ∷ []) (now (out .exit)) r ⌝ }
@@ -10,6 +11,7 @@ pub fn put_byte(out: &mut [u8], at: usize, b: u8) -> usize
     at + 1
 }
 
+// Puts the bytes of s from the place `at` on, and returns the place after them.
 pub fn put_bytes(out: &mut [u8], at: usize, s: &[u8]) -> usize
     requires { ⌜ Room (now out) at (now s) ⌝ }
     ensures { λ r. ⌜ Put (now (out .entry)) at (now (s .entry)) (now (out .exit)) r ⌝ }

@@ -1,4 +1,4 @@
--- What an event's promise makes of the answer to its line.
+-- What the promise of an event makes of the answer to its line.
 use mathlib.Core.Path.{_≡_, refl, sym, ap, ap₂, _∙_, subst}
 use mathlib.Core.List.{List, [], _∷_, _++_, map}
 use Prim.Native.Nat.{ℕ, _+_, _<_, _≤_}
@@ -32,7 +32,7 @@ use Rattle.script.specs.declared.line.Line.{Line}
 use Rattle.script.specs.declared.line.Line.the-variants as line
 use Rattle.transcript.specs.Replay.{Result, replying, lineResult}
 
--- what is returned, with the reports in the buffer b, is the result a
+-- States that the state and the reply r, with the reports in the report buffer b, are the result a.
 pub record Results (r : Stepped) (b : List ℕ) (a : Result) : Type 0 where
   pub valid : Valid (r .detector)
   pub state : tables (r .detector) ≡ a .tables
@@ -42,7 +42,7 @@ pub record Results (r : Stepped) (b : List ℕ) (a : Result) : Type 0 where
   pub few : reportsOf (r .reply) ≤ 32
   pub small : number (r .reply) < 256
 
--- ---- the bytes of reports are those of their entries
+-- ---- The bytes of reports are those of their entries
 
 written-items : (rs : List Report) → written rs ≡ reportsBytes (map entriesOf rs)
 unfolding written reportsBytes bytesOf
@@ -63,8 +63,9 @@ size-items : (b e : List ℕ) (rs : List Report) → length (written rs) ≤ len
 size-items b e rs h q =
     ap₂ reportsSize (sym (length-map rs entriesOf)) (laid-items b e rs h q) ∙ reports-size (map entriesOf rs) (drop (length (written rs)) b) ∙ ap length (sym (written-items rs))
 
--- ---- a line that does not read, an event that is refused, one that is served
+-- ---- A line that does not read, an event that is refused, one that is served
 
+-- Returns the result of an event that is served.
 abbrev served-by : Tables → Event → Result
 served-by x e = replying (Reports (length (apply e x .reports))) (apply e x)
 
@@ -96,8 +97,10 @@ served-results d e r b c g n q s =
       small = omega (arith, brief .few, most-32 e);
     }
 
--- ---- where the ways of a line meet: what is answered, and a buffer of bytes, as long as before
+-- ---- Where the cases of a line meet
 
+-- States that from the state d and the report buffer b the line l gives the state s, the reply y and the buffer
+-- c, which holds bytes and has the same length.
 pub record Met (d : Detector) (l : Line) (b : List ℕ) (s : Detector) (y : Reply) (c : List ℕ) : Type 0 where
   pub results : Results (record { detector = s; reply = y }) c (lineResult (tables d) l)
   pub long : length c ≡ length b
@@ -112,7 +115,7 @@ module _ {d : Detector} {l : Line} {b : List ℕ} (g : Valid d) (n : length b �
         bytes = subst Bytes (sym c≡) k;
       }
 
-  -- the event x by its rule
+  -- The event is served by its rule.
   pub met-served : {e x : Event} {k : ℕ} {r : Done} {c z : List ℕ} {s : Detector} {y : Reply} → l ≡ line.Event e → k ≡ refusal (tables d) (length b) e → k ≡ 0 → e ≡ x → Does r b z (apply x (tables d))
       → length z ≡ length b → Bytes z → c ≡ z → s ≡ r .detector → y ≡ Reports (r .reports) → Met d l b s y c
   met-served {e} {x} {k} {r} {c} {z} h q o u p w t c≡ s≡ y≡ =
@@ -120,11 +123,13 @@ module _ {d : Detector} {l : Line} {b : List ℕ} (g : Valid d) (n : length b �
       meet c≡ s≡ (y≡ ∙ ap Reports (p .count)) (ap (lineResult (tables d)) (h ∙ ap line.Event u) ∙ line-served (tables d) x none)
       (served-results d x (r .detector) b z g n none (record { state = p .state; count = refl; bytes = p .bytes; valid = p .valid })) w t
 
+  -- The event is refused.
   pub met-refused : {e : Event} {k : ℕ} {c : List ℕ} {s : Detector} {y : Reply} → Bytes b → l ≡ line.Event e → k ≡ refusal (tables d) (length b) e → (k ≡ 0 → ⊥) → c ≡ b → s ≡ d → y ≡ Refused k → Met d l b s y c
   met-refused {e} {k} t h q o c≡ s≡ y≡ =
       let same : refusal (tables d) bufferBytes e ≡ k = ap (λ (m : ℕ). refusal (tables d) m e) (sym n) ∙ sym q in
       meet c≡ s≡ y≡ (ap (lineResult (tables d)) h ∙ line-refused (tables d) e (λ z. o (sym same ∙ z)) ∙ ap (λ (m : ℕ). replying (Refused m) (silent (tables d))) same)
       (refused-results d k b g (omega (arith, refusal-known (tables d) bufferBytes e .most))) refl t
 
+  -- The line does not read.
   pub met-unreadable : {c : List ℕ} {s : Detector} {y : Reply} → Bytes b → l ≡ line.Unreadable → c ≡ b → s ≡ d → y ≡ Refused 1 → Met d l b s y c
   met-unreadable t h c≡ s≡ y≡ = meet c≡ s≡ y≡ (ap (lineResult (tables d)) h) (refused-results d 1 b g (omega arith)) refl t

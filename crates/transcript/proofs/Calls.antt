@@ -1,4 +1,4 @@
--- What the calls put out, one after the other, is the text of what they took.
+-- What the calls put, one after the other, is the text of the bytes that they took.
 use mathlib.Core.Path.{_≡_, refl, sym, ap, ap₂, _∙_, subst}
 use mathlib.Core.Logic.{_⊎_, inl, inr, ⊎-elim}
 use mathlib.Core.Bool.{Bool, true, false, cond}
@@ -23,7 +23,7 @@ use Rattle.transcript.proofs.Text.{text-theorem}
 use Rattle.transcript.proofs.Turning.{slice-cut}
 use Rattle.transcript.proofs.Feeding.{feeds-move}
 
--- what was put stands between the two places
+-- The bytes that were put stand between the two places.
 out-put : (d s d′ : List ℕ) (at r : ℕ) → r ≤ length d → Put d at s d′ r → between at r d′ ≡ s
 out-put d s d′ at r h p =
     let n : length (take at d) ≡ at = length-take-le at d (omega (arith, p .place)) in
@@ -34,7 +34,7 @@ out-put d s d′ at r h p =
     let h′ : at ≤ length d′ = omega (arith, ap length w, length-append (take at d) (s ++ drop r d), n) in
     sym (slice-cut at r d′ h′ (omega (arith, p .place))) ∙ ap₂ take k b ∙ take-append-seam s (drop r d)
 
--- the calls, as the definitions go through the same parts
+-- The calls go as the definitions do over the same parts.
 module _ {e : Run} {k : List ℕ} where
   pub calls-print : {r : Run} {c s : List ℕ} {ts : List (List ℕ)} → Calls r c ts s e k → (s ≡ printsAll (midOf r c) ts) × (midOf e k ≡ fedAll (midOf r c) ts)
   unfolding printsAll fedAll
@@ -64,10 +64,10 @@ all-printed ts all p =
     let f : p .fed ≡ printsAll start ts = h .0 ∙ ap (λ (m : Mid). printsAll m ts) m in
     let e : midOf (p .last) (p .carried) ≡ fedAll start ts = h .1 ∙ ap (λ (m : Mid). fedAll m ts) m in
     p .whole
-    ∙ ap₂ (λ (x y : List ℕ). x ++ y) f (out-put (p .lent) _ (p .left) (p .at) (p .behind) (p .fits) (p .finished) ∙ ap ends e)
+    ∙ ap₂ (λ (x y : List ℕ). x ++ y) f (out-put (p .lent) _ (p .left) (p .at) (p .to) (p .fits) (p .finished) ∙ ap ends e)
     ∙ text-theorem ts
 
--- ---- an answer for each line that is read, and an end
+-- ---- An answer for each line that is read, and an end
 
 text-answers : (ls : List (List ℕ)) (r : replay.Run) → textOf r ls ≡ together (answersOf r ls) ++ lastText (lastOf r ls)
 unfolding textOf answersOf lastOf together
@@ -92,6 +92,7 @@ lines-answers (l ∷ ls) r = go (ltb (r .lines) limit) (lines-answers ls (after 
     go true ih = omega (arith, ih)
     go false ih = omega arith
 
+-- States that from the run r on n of the lines are answered: all of them, or as many as lead to the limit.
 abbrev AnsweredFrom : replay.Run → ℕ → ℕ → Type 0
 AnsweredFrom r n lines = ((n ≡ lines) × (r .lines + lines ≤ limit)) ⊎ ((r .lines + n ≡ limit) × (limit ≤ r .lines + lines))
 

@@ -1,4 +1,4 @@
--- A chunk, taken to a place and on from there; behind the last line that is read nothing changes.
+-- A chunk is taken up to a place and on from there. After the last line that is read nothing changes.
 use mathlib.Core.Path.{_≡_, refl, sym, ap, _∙_}
 use mathlib.Core.Bool.{false}
 use mathlib.Core.List.{List, [], _∷_, _++_}
@@ -15,6 +15,7 @@ use Rattle.transcript.specs.Code.{midOf, between}
 use Rattle.transcript.specs.declared.run.Run.{Run}
 use Rattle.transcript.proofs.Text.{fed-append}
 
+-- At the limit of lines a byte, and any bytes, change nothing.
 step-full : (m : Mid) (b : ℕ) → ltb (m .run .lines) limit ≡ false → step m b ≡ m
 unfolding step
 step-full m b e = rw e refl
@@ -29,6 +30,7 @@ between-on a b c l h g k =
     ap (drop a) (sym (take-append-drop b (take c l)) ∙ ap (λ (x : List ℕ). x ++ drop b (take c l)) (take-take b c l g))
     ∙ drop-append-le a (take b l) (drop b (take c l)) (omega (arith, length-take-le b l (omega arith)))
 
+-- A move may take no byte, and two moves may follow each other.
 pub moves-none : (r : Run) (carry chunk : List ℕ) (from : ℕ) → IsRun r carry → from ≤ length chunk → Moves r carry chunk from from r carry
 unfolding fed
 moves-none r carry chunk from k h = record { kept = k; onward = omega arith; inside = h; after = sym (ap (fed (midOf r carry)) (slice-empty from chunk)) }
@@ -43,7 +45,7 @@ moves-on {r} {s} {u} {carry} {carry′} {carry″} {chunk} {from} {i} {j} m n =
           ∙ sym (ap (fed (midOf r carry)) (between-on from i j chunk (m .onward) (n .onward) (n .inside)));
     }
 
--- the whole chunk is taken, or as far as lines are read
+-- The whole chunk is taken, or as much of it as is read.
 module _ {r s : Run} {carry carry′ chunk : List ℕ} {i : ℕ} (m : Moves r carry chunk 0 i s carry′) where
   pub moves-all : length chunk ≤ i → midOf s carry′ ≡ fed (midOf r carry) chunk
   moves-all h = m .after ∙ ap (fed (midOf r carry)) (take-all i chunk h)

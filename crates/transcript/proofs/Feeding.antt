@@ -1,4 +1,4 @@
--- Turns one after the other, and the text's end.
+-- Turns follow each other, and the text ends.
 use mathlib.Core.Path.{_≡_, refl, sym, ap, ap₂, _∙_, subst}
 use mathlib.Core.Bool.{true}
 use mathlib.Core.Logic.{_⊎_, inl, inr}
@@ -29,7 +29,7 @@ use Rattle.transcript.proofs.Text.{prints-append, text-full}
 use Rattle.transcript.proofs.Chunk.{between-on, moves-none, moves-on}
 use Rattle.transcript.proofs.Turning.{Goes}
 
--- ---- turns, one after the other
+-- ---- Turns, one after the other
 
 pub goes-none : (r : code.Run) (carry chunk : List ℕ) (from : ℕ) (out : List ℕ) (at : ℕ) → IsRun r carry → from ≤ length chunk → Goes r carry chunk from out at carry out r from at
 unfolding prints
@@ -58,7 +58,7 @@ module _ {r : code.Run} {carry chunk : List ℕ} {from : ℕ} {out : List ℕ} {
   pub goes-done : to ≤ length out → (i < length chunk → s .lines < limit → length out < to + answerBytes) → Feeds r carry chunk from out at (record { run = s; next = i; at = to }) carry′ out′
   goes-done w h = record { moves = g .moves; text = g .text; place = w; short = g .short; stops = h }
 
--- a call moves on
+-- A call with bytes, a line and room left takes at least one byte.
 pub feeds-move : {r : code.Run} {carry chunk : List ℕ} {from : ℕ} {out : List ℕ} {at : ℕ} {t : Turned} {carry′ out′ : List ℕ} → Feeds r carry chunk from out at t carry′ out′
     → from < length chunk → r .lines < limit → at + answerBytes ≤ length out → from < t .next
 unfolding fed prints
@@ -72,7 +72,7 @@ feeds-move {r} {carry} {chunk} {from} {out} {at} {t} {carry′} {out′} f h k w
         let here : t .at ≡ at + length (prints (midOf r carry) []) = f .text .place ∙ ap (λ (z : List ℕ). at + length (prints (midOf r carry) z)) cut in
         absurd (omega (arith, f .stops (omega arith) (omega arith), here))
 
--- ---- the end
+-- ---- The end
 
 pub totals-text : (n e s : ℕ) (x : Tables) → e ≡ edgeCount (x .waits .«wait_for_graph» .edges) → s ≡ stuckCount x → endText n e s ≡ lastText (record { lines = n; tables = x })
 unfolding lastText
@@ -86,7 +86,7 @@ pub ends-full : (r : code.Run) (carry : List ℕ) → r .lines ≡ limit → end
 unfolding ends
 ends-full r carry e = text-full (runOf r) (lastLine (take (r .have) carry)) (le-ltb (r .lines) limit (omega arith))
 
--- no line is left to answer
+-- Where no line is left to answer, only the totals are printed.
 pub ends-closed : (r : code.Run) (carry : List ℕ) → (r .have ≡ 0) ⊎ (r .lines ≡ limit) → ends (midOf r carry) ≡ lastText (runOf r)
 ends-closed r carry (inl e) = ends-none r carry e
 ends-closed r carry (inr e) = ends-full r carry e
@@ -99,7 +99,7 @@ open-line m h k = go (m .part) (m .run) h (lt-ltb (m .run .lines) limit k)
     go [] r h e = absurd (h refl)
     go (b ∷ p) r h e = rw (e, append-nil)
 
--- ---- the start
+-- ---- The start
 
 pub begins : (d : Detector) → tables d ≡ empty → Valid d → Begins (record { detector = d; lines = 0; have = 0 })
 begins d e v =

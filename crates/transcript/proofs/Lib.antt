@@ -1,3 +1,5 @@
+-- Laws about scripts in chunks. Theorems: text-theorem (Text), open-line (Feeding), all-printed,
+-- feeds-coincide, calls-move and texts-answered (Calls).
 pub mod Text
 pub mod Chunk
 pub mod Carry

@@ -1,4 +1,4 @@
--- THE TEXT THEOREM: the text in whatever chunks prints what the definition says of it.
+-- THE TEXT THEOREM: a text in any chunks prints what the definition gives for the whole text.
 use mathlib.Core.Path.{_≡_, refl, sym, ap, _∙_}
 use mathlib.Core.Bool.{Bool, true, false}
 use mathlib.Core.List.{List, [], _∷_, _++_, append-assoc}
@@ -16,7 +16,7 @@ use Rattle.text.specs.Lines.{linesOf, carryBytes}
 use Rattle.transcript.specs.Replay.{Run, limit, begun, lineResult, resultOf, after, lineText, lastText, textOf, replayText}
 use Rattle.transcript.specs.Chunks.{Mid, mid, start, step, printsByte, fed, prints, lastLine, ends, fedAll, printsAll, together, TextTheorem}
 
--- ---- feeding a and then b is feeding a ++ b
+-- ---- Feeding a and then b is feeding a ++ b
 
 pub fed-append : (m : Mid) (a b : List ℕ) → fed m (a ++ b) ≡ fed (fed m a) b
 unfolding fed
@@ -38,7 +38,7 @@ unfolding printsAll prints together
 prints-joined m [] = refl
 prints-joined m (t ∷ ts) = ap (λ (x : List ℕ). prints m t ++ x) (prints-joined (fed m t) ts) ∙ sym (prints-append m t (together ts))
 
--- ---- a line cut where the carry ends answers as the whole line
+-- ---- The carry of a line is answered as the whole line
 
 pub cut-result : (x : Tables) (p : List ℕ) → resultOf x (take carryBytes p) ≡ resultOf x p
 unfolding resultOf
@@ -53,8 +53,9 @@ more-pick false p x e =
 pub cut-more : (p x : List ℕ) → take carryBytes (take carryBytes p ++ x) ≡ take carryBytes (p ++ x)
 cut-more p x = more-pick (leb (length p) carryBytes) p x refl
 
--- ---- the lines of a text behind the line so far
+-- ---- The lines of a text that begins with the bytes of a line that is not whole yet
 
+-- Returns the lines with the bytes p put before the first of them.
 abbrev before : List ℕ → List (List ℕ) → List (List ℕ)
 before [] ls = ls
 before (b ∷ p) ls = onFirst b (before p ls)
@@ -72,7 +73,7 @@ before-more : (p : List ℕ) (b : ℕ) (ls : List (List ℕ)) → before p (onFi
 before-more [] b ls = refl
 before-more (x ∷ p) b ls = ap (onFirst x) (before-more p b ls)
 
--- ---- the theorem, from any line so far and any run
+-- ---- The theorem, from any line that is not whole yet and any run
 
 pub text-full : (r : Run) (ls : List (List ℕ)) → ltb (r .lines) limit ≡ false → textOf r ls ≡ lastText r
 unfolding textOf
@@ -88,6 +89,8 @@ unfolding textOf lineText after
 text-cut r [] = refl
 text-cut r (b ∷ p) = rw (cut-result (r .tables) (b ∷ p))
 
+-- States that what is printed for t, with the bytes p of a line that is not whole yet before it, is the text of
+-- its lines.
 Whole : List ℕ → Type 0
 Whole t = (p : List ℕ) (r : Run) → prints (mid (take carryBytes p) r) t ++ ends (fed (mid (take carryBytes p) r) t) ≡ textOf r (before p (linesOf t))
 

@@ -1,4 +1,4 @@
--- A turn: the bytes up to the next line feed, and what they make of the run.
+-- A turn of the loop takes the bytes up to the next line feed and changes the run by them.
 use mathlib.Core.Path.{_≡_, refl, sym, ap, ap₂, _∙_, subst}
 use mathlib.Core.Bool.{Bool, true, false, cond}
 use mathlib.Core.List.{List, [], _∷_, _++_, append-nil}
@@ -34,7 +34,7 @@ use Rattle.script.specs.declared.line.Line.{Line}
 use Rattle.transcript.proofs.Answering.{Results}
 use Rattle.transcript.proofs.Text.{fed-append, prints-append, cut-result, cut-more}
 
--- ---- the bytes of a chunk from a place to the next line feed, and that line feed
+-- ---- The bytes of a chunk from a place to the next line feed, and this line feed
 
 slice-at : (from k : ℕ) (l : List ℕ) → from ≤ length l → between from (from + k) l ≡ take k (drop from l)
 slice-at from k l h = ap (drop from) (take-add from k l) ∙ drop-at (take from l) (take k (drop from l)) from (length-take-le from l h)
@@ -50,7 +50,7 @@ ends-pick : (t : Bool) (d b : ℕ) (y : List ℕ) → eqb b d ≡ t → (length 
 ends-pick true d b y e ih h = eqb-true b d e
 ends-pick false d b y e ih h = ih (omega arith)
 
--- what ends the part is the separator
+-- What comes after the part is the separator.
 ends-with : (d : ℕ) (y : List ℕ) → length (upTo d y) < length y → getD y (length (upTo d y)) 0 ≡ d
 unfolding upTo
 ends-with d [] h = absurd (omega arith)
@@ -66,7 +66,7 @@ piece-feed from e l h q w =
     ap (λ (n : ℕ). between from n l) z ∙ slice-at from (suc k) l h ∙ take-suc y k 0 v
     ∙ ap₂ (λ (p : List ℕ) (b : ℕ). p ++ (b ∷ [])) (take-upTo lineFeed y) (ends-with lineFeed y v)
 
--- ---- a part without a line feed is carried
+-- ---- A part without a line feed is carried
 
 step-carry : (p : List ℕ) (b : ℕ) (r : Run) → ltb (r .lines) limit ≡ true → eqb b lineFeed ≡ false → step (mid (take carryBytes p) r) b ≡ mid (take carryBytes (p ++ (b ∷ []))) r
 unfolding step
@@ -100,7 +100,7 @@ unfolding prints upTo
 prints-part [] m = refl
 prints-part (b ∷ y) m = prints-pick (eqb b lineFeed) b y m refl (prints-part y)
 
--- ---- a line feed ends the line
+-- ---- A line feed ends the line
 
 pub after-cut : (r : Run) (p : List ℕ) → after r (take carryBytes p) ≡ after r p
 unfolding after
@@ -119,7 +119,7 @@ unfolding prints printsByte
 prints-feed p r f = rw f (append-nil (lineText r (take carryBytes p)) ∙ text-cut r p)
 
 module _ (have : ℕ) (carry : List ℕ) (r : Run) (small : have ≤ carryBytes) (more : r .lines < limit) where
-  -- what is carried is cut already
+  -- The carry is short enough already.
   carried : take carryBytes (take have carry) ≡ take have carry
   carried = take-all carryBytes (take have carry) (omega (arith, length-take have carry))
 
@@ -153,13 +153,13 @@ module _ (have : ℕ) (carry : List ℕ) (r : Run) (small : have ≤ carryBytes)
         ∙ ap (λ (t : List ℕ). t ++ prints (fed (mid (take have carry) r) part) (lineFeed ∷ [])) part-prints
         ∙ ap (λ (m : Mid). prints m (lineFeed ∷ [])) part-fed ∙ prints-feed (take have carry ++ part) r free
 
--- ---- the line's answer
+-- ---- The answer to the line
 
 effect-result : (n : ℕ) (y : Stepped) (b : List ℕ) (a : Result) → Results y b a → answerText n (y .reply) b ≡ resultText n a
 unfolding answerText
 effect-result n y b a h = ap₂ (λ (q : Reply) (c : List (List Entry)). replyText n q ++ cyclesText c) (h .reply) (h .cycles)
 
--- there is room for it, and what is put is the result's text
+-- There is room for the answer, and what is put is the text of the result.
 module _ (n : ℕ) (a : Stepped) (b : List ℕ) (q : Result) (small : n < 2 ^ 64) (bytes : Bytes b) (s : Results a b q) (out : List ℕ) (at : ℕ) where
   pub answered-room : length b ≡ bufferBytes → at + answerBytes ≤ length out → Held (reportsOf (a .reply)) b × Room out at (answerText n (a .reply) b)
   answered-room h w = (omega (arith, s .held), answer-room out at n (a .reply) b small (omega (arith, s .small)) bytes (s .few) (s .held) w)
@@ -178,15 +178,17 @@ pub text-line : (r : Run) (l : List ℕ) (n : ℕ) → n ≡ r .lines + 1 → re
 unfolding lineText resultOf
 text-line r l n e = ap (λ (m : ℕ). resultText m (lineResult (r .tables) (lineOf l))) e
 
--- ---- the loop's way over the chunk, and a turn of it: one line, or what the chunk has of it
+-- ---- Turns of the loop
 
+-- States that the loop has gone over the chunk up to the place i, with the run s, and has put the bytes up to
+-- the place `to`.
 pub record Goes (r : code.Run) (carry chunk : List ℕ) (from : ℕ) (out : List ℕ) (at : ℕ) (carry′ out′ : List ℕ) (s : code.Run) (i to : ℕ) : Type 0 where
   pub moves : Moves r carry chunk from i s carry′
   pub text : Put out at (prints (midOf r carry) (between from i chunk)) out′ to
   pub up : r .lines ≤ s .lines
   pub short : to ≤ at + answerBytes * (s .lines - r .lines)
 
--- the chunk ends before the line does
+-- In this turn the chunk ends before the line does.
 pub carried-turn : (r : code.Run) (carry carry′ chunk out : List ℕ) (from e at h : ℕ) → IsRun r carry → r .lines < limit → from < length chunk
     → (e ≡ from + length (upTo lineFeed (drop from chunk))) × (e ≤ length chunk) → e ≡ length chunk → length carry′ ≡ length carry
     → (h ≤ carryBytes) × (take h carry′ ≡ take carryBytes (take (r .have) carry ++ take (e - from) (drop from chunk)))
@@ -205,7 +207,7 @@ carried-turn r carry carry′ chunk out from e at h k n i f q w p =
       short = omega arith;
     }
 
--- the line ends in the chunk
+-- In this turn the line ends in the chunk.
 pub line-turn : (r : code.Run) (carry carry′ chunk out out′ : List ℕ) (from e at to : ℕ) (d : Detector) (l : Line) → IsRun r carry → r .lines < limit → from < length chunk
     → (e ≡ from + length (upTo lineFeed (drop from chunk))) × (e ≤ length chunk) → (e ≡ length chunk → ⊥) → length carry′ ≡ length carry
     → l ≡ lineOf (take (r .have) carry ++ take (e - from) (drop from chunk))

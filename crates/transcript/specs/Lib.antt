@@ -1,4 +1,4 @@
--- A script as a text, what replay prints for it, and the same in chunks.
+-- What replay prints for a script, as a text and in chunks, and what the calls promise.
 pub mod Replay
 pub mod Chunks
 pub mod Code

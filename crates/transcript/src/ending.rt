@@ -1,4 +1,4 @@
-// The text's end: the sums.
+// This module ends a script's run with the totals.
 use crate::run::Run;
 use answers::put_end;
 use detector::Detector;
@@ -12,7 +12,8 @@ ghost use Rattle.transcript.specs.Chunks.{ends};
 ghost use Rattle.transcript.specs.Promises.{EndAsks};
 ghost use Rattle.transcript.specs.Code.{midOf};
 
-// Lines, edges stored, stuck threads.
+// Puts the `end` line with the lines read, the edges stored and the stuck threads of the state, and returns the
+// place after it.
 fn put_totals(detector: Detector, lines: usize, out: &mut [u8], at: usize) -> usize
     requires { ⌜ Valid detector × (lines ≤ limit) × (at + endBytes ≤ length (now out)) ⌝ }
     ensures { λ r. ⌜ Put (now (out .entry)) at (lastText (record { lines = lines; tables = tables detector })) (now (out .exit)) r × (r ≤ at + endBytes) ⌝ }
@@ -22,8 +23,8 @@ fn put_totals(detector: Detector, lines: usize, out: &mut [u8], at: usize) -> us
     put_end(out, at, lines, edges, stuck)
 }
 
-// The sums, where no line is left to answer: none is open, or the last one that is read is answered. A last line that
-// lacks its line feed is first fed one (`open-line`).
+// Puts the totals and returns the place after them. No line may be left to answer: nothing is carried, or the
+// limit of lines is reached. A last line that lacks its line feed must first be fed one (`open-line`).
 pub fn finish_within(run: Run, carry: &[u8], out: &mut [u8], at: usize) -> usize
     requires { ⌜ EndAsks run (now carry) (length (now out)) at ⌝ }
     ensures { λ r. ⌜ Put (now (out .entry)) at (ends (midOf run (now (carry .entry)))) (now (out .exit)) r × (r ≤ at + endBytes) ⌝ }

@@ -1,4 +1,5 @@
-// Text in chunks to text: the line that is not whole yet is carried, and each whole line is answered.
+// This crate turns a script that comes in chunks into what replay prints for it. The first bytes of a line that
+// is not whole yet are carried from one chunk to the next.
 mod ending;
 mod lines;
 mod run;

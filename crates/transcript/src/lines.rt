@@ -1,4 +1,4 @@
-// The lines of a chunk: what is carried of one that is not whole, and how it reads.
+// This module reads a line of which the beginning may have been carried.
 use script::Line;
 use script::read_line;
 use text::keep;
@@ -9,7 +9,8 @@ ghost use lib.ListN.{length, take};
 ghost use Rattle.script.specs.Lines.{lineOf};
 ghost use Rattle.text.specs.Lines.{carryBytes};
 
-// The line that ends with this part: the part alone where nothing is carried.
+// Returns what the line reads as that has `have` bytes in the carry and ends with this part of the chunk. The
+// part alone is read if nothing is carried; otherwise it is added to the carry, as far as there is room.
 pub(crate) fn line_of(carry: &mut [u8], have: usize, part: &[u8]) -> Line
     requires { ⌜ (length (now carry) ≡ carryBytes) × (have ≤ carryBytes) ⌝ }
     ensures { λ r. ⌜ r ≡ lineOf (take have (now (carry .entry)) ++ now (part .entry)) ⌝ }

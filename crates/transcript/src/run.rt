@@ -1,4 +1,4 @@
-// A script's run over a chunk, line by line.
+// This module runs a script over a chunk, line by line.
 use crate::lines::line_of;
 use answers::ANSWER_BYTES;
 use answers::put_answer;
@@ -11,17 +11,18 @@ use text::up_to;
 ghost use lib.ListN.{length};
 ghost use Rattle.transcript.specs.Promises.{Begins, FeedAsks, Feeds};
 
-// Lines behind this one are not read.
+// Lines after the one of this number are not read.
 pub const LIMIT: usize = 1000000;
 
-// Between two lines: the state, how many lines were read, and how many bytes are carried.
+// Holds a script's run between two bytes of its text: the state, how many lines were read, and how many bytes
+// are carried.
 pub struct Run {
     pub detector: Detector,
     pub lines: usize,
     pub have: usize,
 }
 
-// Before the first line.
+// Returns the run before the first byte: the empty state, no line read and nothing carried.
 pub fn begin() -> Run
     ensures { λ r. ⌜ Begins r ⌝ }
 {
@@ -33,15 +34,17 @@ pub fn begin() -> Run
     }
 }
 
-// The run after a part of the chunk, where the next one starts, and the place behind what was printed.
+// Holds what `feed_within` returns: the run after the part of the chunk that it took, the place in the chunk
+// where the next part starts, and the place after what it put.
 pub struct Turned {
     pub run: Run,
     pub next: usize,
     pub at: usize,
 }
 
-// Line after line, while the chunk has bytes, a line may be read and the longest answer has room. The dispatch on the
-// event stands in the loop for speed: the state is too large to pass through a call for each line.
+// Puts an answer for each line of the chunk from `from` on, and carries a line that is not whole at its end.
+// Stops early at the limit of lines, or if `out` lacks room for the longest answer. The match on the event
+// stands in the loop because the state is too large to pass through one more call for each line.
 pub fn feed_within(
     run: Run,
     carry: &mut [u8],

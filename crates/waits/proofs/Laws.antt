@@ -1,4 +1,4 @@
--- What the rules keep in range, and who the owners are.
+-- What the rules keep in range, and which threads the owners are.
 use mathlib.Core.Path.{_≡_, refl, sym, ap, _∙_, subst}
 use mathlib.Core.Logic.{⊎-elim}
 use mathlib.Core.List.{List, [], _∷_, foldl}
@@ -29,12 +29,13 @@ use Rattle.waits.specs.declared.intent.WaitMode.the-variants.{Mutex, RwR
 use Rattle.waits.specs.declared.intent.Awaits.{Awaits}
 use Rattle.waits.specs.declared.intent.Awaits.the-variants.{Nothing, For}
 
--- ---- the tables stay in range
+-- ---- The tables stay in range
 
+-- In tables that are in range, every intent names a lock below 64.
 pub lock-of : (w : Waits) (t : ℕ) (i : WaitIntent) → InRange w → intentOf w t ≡ For i → i .«lock_id» < 64
 lock-of w t i s e = rw e at (s .locks t)
 
--- a thread's slot is written
+-- Storing an intent on a lock below 64 keeps the tables in range.
 range-slot : (w : Waits) (t : ℕ) (v : Slot) (x : List ℕ) → lockOf (v .awaits) < 64 → InRange w → InRange (withIntents w (set (w .«thread_waits_for») t v) x)
 range-slot w t v x h s =
     record {
@@ -43,6 +44,7 @@ range-slot w t v x h s =
       writer = s .writer;
     }
 
+-- Each rule keeps the tables in range.
 pub range-graph : (w : Waits) (g : WaitForGraph) → InRange w → InRange (withGraph w g)
 range-graph w g s = record { locks = s .locks; owner = s .owner; writer = s .writer }
 
@@ -79,6 +81,7 @@ unfolding refreshNext
 range-locks c [] s h = h
 range-locks c (l ∷ ls) s h = range-locks c ls (refreshNext c s l) (range-refresh c (s .waits) l h)
 
+-- The empty tables are in range.
 pub range-empty : InRange empty
 range-empty =
     record {
@@ -97,7 +100,7 @@ range-empty =
     none (suc n) zero = lit≤ tt
     none (suc n) (suc l) = none n l
 
--- ---- owners are below 32
+-- ---- Owners are below 32
 
 pub readers-lt : (c : List ℕ) (l x : ℕ) → In x (readers c l) → x < 32
 unfolding readers
@@ -118,7 +121,7 @@ owners-lt c w i = go (i .mode)
     go RwRead x = one-lt (writerOf w (i .«lock_id»)) x
     go RwWrite x = then-lt c (i .«lock_id») (writerOf w (i .«lock_id»)) x
 
--- ---- a found path has at most 32 threads, each below 32
+-- ---- A path that is found has at most 32 threads, each below 32
 
 pub fits-register : (c : List ℕ) (w : Waits) (t : ℕ) (i : WaitIntent) → Fits (register c w t i .found)
 unfolding register
@@ -153,7 +156,7 @@ pub fits-locks : (c : List ℕ) (w : Waits) (ls : List ℕ) → Fits (refreshLoc
 unfolding refreshLocks
 fits-locks c w ls = fits-next c ls _ fits-none
 
--- ---- no edges from t: nothing to drop
+-- ---- If there are no edges from t, clearing them changes nothing
 
 pub clear-idle : (g : WaitForGraph) (t : ℕ) → row (g .edges) t ≡ 0 → clearWaitEdges g t ≡ g
 unfolding clearWaitEdges cutAll

@@ -1,7 +1,7 @@
--- Laws of the rules, and the code they are tied to.
+-- Laws of the rules, and the ties from the code to them.
 pub mod Laws
 pub mod Steps
 pub mod Masks
 pub mod Judging
--- The rules, run
+-- Here the rules are run on small tables.
 pub mod Readings

@@ -1,4 +1,4 @@
--- The code's masks and walks over cells are the rules' lists.
+-- The code's masks and walks over places are the rules' lists.
 use mathlib.Core.Path.{_≡_, refl, sym, ap, _∙_}
 use mathlib.Core.Logic.{_⊎_, inl, inr, ⊎-elim}
 use mathlib.Core.List.{List, [], _∷_, _++_}
@@ -33,19 +33,21 @@ use Rattle.waits.specs.declared.tables.Waits.{Waits}
 use Rattle.waits.specs.declared.intent.Awaits.{Awaits}
 use Rattle.waits.specs.declared.intent.Awaits.the-variants.{Nothing, For}
 
--- ---- a list in cells, walked
+-- ---- A walk over the first n places of a table
 
+-- The next element is the one at the place i.
 pub next-of : (ts : List ℕ) (n i : ℕ) → i < n → n ≤ length ts → drop i (take n ts) ≡ getD ts i 0 ∷ drop (i + 1) (take n ts)
 next-of ts n i h b =
     let l : length (take n ts) ≡ n = length-take-le n ts b in
     drop-cons (take n ts) i 0 (omega arith) ∙ rw (getD-take n ts i 0 h, add-one)
 
+-- From n on there is none.
 pub done-of : (ts : List ℕ) (n i : ℕ) → n ≤ i → n ≤ length ts → drop i (take n ts) ≡ []
 done-of ts n i h b = let l : length (take n ts) ≡ n = length-take-le n ts b in drop-of-length-le (take n ts) {i = i} (omega arith)
 
--- ---- the mask of readers
+-- ---- The mask of the readers
 
--- below t it has the readers, from t on nothing
+-- States that the mask m has the readers of l below t, and nothing from t on.
 pub record Masked (c : List ℕ) (l t m : ℕ) : Type 0 where
   pub fits : m < 2 ^ 32
   pub below : (k : ℕ) → k < t → has m k ≡ reads c k l
@@ -55,10 +57,11 @@ pub masked-none : (c : List ℕ) (l : ℕ) → Masked c l 0 0
 masked-none c l = record { fits = lit< tt; below = λ k h. absurd (omega arith); above = λ k h. bit-zero k }
 
 module _ (c : List ℕ) (l t m : ℕ) (h : t < 32) (s : Masked c l t m) where
-  -- the digit at t is settled
+  -- The digit at t is right.
   settled : (m′ : ℕ) → has m′ t ≡ reads c t l → (k : ℕ) → k ≡ t → has m′ k ≡ reads c k l
   settled m′ d k e = ap (λ (j : ℕ). has m′ j) e ∙ d ∙ sym (ap (λ t. reads c t l) e)
 
+  -- A thread that reads is added, and one that does not leaves the mask as it is.
   pub masked-more : (countOf c t l ≡ 0 → ⊥) → Masked c l (t + 1) (with m t)
   masked-more n =
       record {
@@ -77,12 +80,14 @@ module _ (c : List ℕ) (l t m : ℕ) (h : t < 32) (s : Masked c l t m) where
         above = λ k i. s .above k (omega arith);
       }
 
+-- When all threads are done, the mask has the readers.
 pub masked-readers : (c : List ℕ) (l m : ℕ) → Masked c l 32 m → upward 32 m ≡ readers c l
 unfolding readers
 masked-readers c l m s = upward-those 32 m ∙ those-same (has m) (λ t. reads c t l) 32 (s .below)
 
--- ---- the last owner
+-- ---- The last owner
 
+-- A thread stands in the walk over a mask exactly when it is in the mask.
 pub among-upward : (m o : ℕ) → o < 32 → among o (upward 32 m) ≡ has m o
 among-upward m o h = go (has m o) refl
   where
@@ -97,6 +102,7 @@ among-upward m o h = go (has m o) refl
 pub in-mask : (m o : ℕ) (rs : List ℕ) (b : Bool) → o < 32 → upward 32 m ≡ rs → has m o ≡ b → among o rs ≡ b
 in-mask m o rs b h e f = ap (among o) (sym e) ∙ among-upward m o h ∙ f
 
+-- The writer comes last, unless it is nobody or one of the readers.
 pub last-none : (o : ℕ) (rs : List ℕ) → o ≡ 32 → rs ++ one o ≡ thenWriter rs o
 last-none o rs e = rw e (ap (λ l. rs ++ l) (go (among 32 rs)))
   where
@@ -110,8 +116,9 @@ last-in o rs e = rw e
 pub last-out : (o : ℕ) (rs : List ℕ) → among o rs ≡ false → rs ++ one o ≡ thenWriter rs o
 last-out o rs e = rw e
 
--- ---- who waits for whom
+-- ---- Who waits for whom
 
+-- `among` is false of what does not stand in a list.
 not-in : (x : ℕ) (l : List ℕ) → (In x l → ⊥) → among x l ≡ false
 not-in x l n = go (among x l) refl
   where
@@ -120,6 +127,7 @@ not-in x l n = go (among x l) refl
     go false e = e
 
 module _ (m o u : ℕ) (h : u < 32) where
+  -- A thread is among the owners if it is the last one, or is in the mask.
   pub among-last : o ≡ u → among u (upward 32 m ++ one o) ≡ true
   among-last e = in-among u _ (in-right u (upward 32 m) (one o) (rw (lt-ltb o 32 (omega arith)) (inl (sym e))))
 
@@ -137,9 +145,10 @@ module _ (m o u : ℕ) (h : u < 32) where
           not-in u _
           (λ i. ⊎-elim (λ j. omega (arith, upward-bit 32 m u j, not-bit m u e)) (one-not (ltb o 32)) (in-either u (upward 32 m) (one o) i))
 
--- ---- the cycle's test
+-- ---- The test of a cycle
 
 module _ (c : List ℕ) (w : Waits) (ts : List ℕ) (n : ℕ) (b : n ≤ length ts) where
+  -- The test starts with the first thread, goes on as long as each waits for the next, and ends with the first again.
   pub valid-first : 0 < n → around c w (getD ts 0 0) (getD ts 0 0) (drop 1 (take n ts)) ≡ valid c w (take n ts)
   unfolding valid
   valid-first h = sym (ap (valid c w) (next-of ts n 0 h b))
@@ -161,9 +170,10 @@ module _ (c : List ℕ) (w : Waits) (ts : List ℕ) (n : ℕ) (b : n ≤ length 
   unfolding around
   around-end f a i h = rw (done-of ts n i h b)
 
--- ---- the awaited locks
+-- ---- The awaited locks
 
 module _ (w : Waits) (ts : List ℕ) (n : ℕ) (b : n ≤ length ts) where
+  -- One turn of the loop adds the lock of one thread.
   pub awaited-step : (m i : ℕ) → i < n
       → awaitedMask w (withAwaited m (intentOf w (getD ts i 0))) (drop (i + 1) (take n ts)) ≡ awaitedMask w m (drop i (take n ts))
   unfolding awaitedMask
@@ -173,6 +183,7 @@ module _ (w : Waits) (ts : List ℕ) (n : ℕ) (b : n ≤ length ts) where
   unfolding awaitedMask
   awaited-end m i h = rw (done-of ts n i h b)
 
+-- A lock is in the mask with an intent's lock if the intent names it or it was there.
 has-awaited : (m l : ℕ) (a : Awaits) → has (withAwaited m a) l ≡ cond (names a l) true (has m l)
 has-awaited m l Nothing = refl
 has-awaited m l (For i) = go (ℕ-discrete (i .«lock_id») l)
@@ -181,7 +192,7 @@ has-awaited m l (For i) = go (ℕ-discrete (i .«lock_id») l)
     go (yes e) = rw (eq-eqb (i .«lock_id») l e) (bit-has _ l (ap (λ (k : ℕ). bit (with m k) l) e ∙ bit-with-same m l))
     go (no n) = rw (ne-eqb (i .«lock_id») l n) (ap (λ (d : ℕ). eqb d 1) (bit-with-other m (i .«lock_id») l (λ e. n (sym e))))
 
--- what is in the mask: what was, and what a thread awaits
+-- A lock is in the mask if a thread awaits it or it was there.
 has-mask : (w : Waits) (l : ℕ) (p : List ℕ) (m : ℕ) → has (awaitedMask w m p) l ≡ cond (someAwaits w p l) true (has m l)
 unfolding awaitedMask someAwaits
 has-mask w l [] m = refl
@@ -196,6 +207,7 @@ has-mask w l (t ∷ p) m =
     go false true = refl
     go false false = refl
 
+-- The walk over the mask is the rule's list.
 pub awaited-locks : (w : Waits) (p : List ℕ) → upward 64 (awaitedMask w 0 p) ≡ awaitedLocks w p
 unfolding awaitedLocks
 awaited-locks w p = upward-those 64 (awaitedMask w 0 p) ∙ those-same (has (awaitedMask w 0 p)) (someAwaits w p) 64 (λ l h. has-mask w l p 0 ∙ rw (bit-zero l) (go (someAwaits w p l)))
@@ -204,9 +216,10 @@ awaited-locks w p = upward-those 64 (awaitedMask w 0 p) ∙ those-same (has (awa
     go true = refl
     go false = refl
 
--- ---- the filter
+-- ---- The filter
 
 module _ (h ts : List ℕ) (n : ℕ) (b : n ≤ length ts) where
+  -- One turn of the loop takes out the locks that one more thread does not hold.
   pub common-step : (m i : ℕ) → i < n → commonMask h (bitAnd m (row h (getD ts i 0))) (drop (i + 1) (take n ts)) ≡ commonMask h m (drop i (take n ts))
   unfolding commonMask
   common-step m i p = rw (next-of ts n i p b)
@@ -215,6 +228,7 @@ module _ (h ts : List ℕ) (n : ℕ) (b : n ≤ length ts) where
   unfolding commonMask
   common-end m i p = rw (done-of ts n i p b)
 
+-- The digit of a & b is the lower of the two digits.
 bit-and : (a b i : ℕ) → bit (bitAnd a b) i ≡ min (bit a i) (bit b i)
 unfolding bit
 bit-and a b zero = rw (and-step a b) (omega arith)
@@ -223,6 +237,7 @@ bit-and a b (suc i) = ap (λ (x : ℕ). bit x i) (ap (λ (y : ℕ). y / 2) (and-
     half : (bitAnd (a / 2) (b / 2) * 2 + min (a % 2) (b % 2)) / 2 ≡ bitAnd (a / 2) (b / 2)
     half = omega arith
 
+-- A number is in a & b if it is in both.
 has-and : (a b l : ℕ) → has (bitAnd a b) l ≡ cond (has a l) (has b l) false
 has-and a b l = rw (bit-and a b l) (go (bit-cases a l) (bit-cases b l))
   where
@@ -232,6 +247,7 @@ has-and a b l = rw (bit-and a b l) (go (bit-cases a l) (bit-cases b l))
     go (inr p) (inl q) = rw (p, q)
     go (inr p) (inr q) = rw (p, q)
 
+-- A lock is in the mask if it was there and every thread holds it.
 has-common : (w : Waits) (l : ℕ) (p : List ℕ) (m : ℕ) → has (commonMask (w .«thread_holds») m p) l ≡ cond (has m l) (allHold w p l) false
 unfolding commonMask allHold
 has-common w l [] m = go (has m l)
@@ -248,7 +264,7 @@ has-common w l (t ∷ p) m =
     go true y = refl
     go false y = refl
 
--- every digit of 2 ^ k - 1 below k is 1
+-- Every digit of 2 ^ k - 1 below k is 1.
 full : (k l : ℕ) → l < k → bit (2 ^ k - 1) l ≡ 1
 unfolding bit
 full zero l h = absurd (omega arith)
@@ -258,11 +274,12 @@ full (suc k) (suc l) h =
     let z : (2 ^ suc k - 1) / 2 ≡ 2 ^ k - 1 = omega (arith, pow-pos k) in
     rw z (full k l (omega arith))
 
+-- The walk over the mask lists the locks that all threads hold.
 pub all-hold : (w : Waits) (p : List ℕ) → upward 64 (commonMask (w .«thread_holds») 18446744073709551615 p) ≡ those (λ l. allHold w p l) 64
 all-hold w p =
     upward-those 64 _ ∙ those-same _ _ 64 (λ l h. has-common w l p 18446744073709551615 ∙ rw (full 64 l h))
 
--- a lock that nobody reads is found, or all are read
+-- If `allRead` is true, no lock of the list is without readers; if it is false, one without readers is found.
 read-all : (c : List ℕ) (ls : List ℕ) → allRead c ls ≡ true → (l : ℕ) → In l ls → nobodyReads c l ≡ false
 unfolding allRead
 read-all c (x ∷ ls) h l i = go (nobodyReads c x) refl h i (read-all c ls)
@@ -281,6 +298,7 @@ read-not c (x ∷ ls) h = go (nobodyReads c x) refl h (read-not c ls)
     go true e h r = (x, inl refl, e)
     go false e h r = let q = r h in (q .0, inr (q .1), q .2)
 
+-- A list is empty exactly when nothing stands in it.
 nothing-in : (l : List ℕ) (x : ℕ) → In x l → nothing l ≡ false
 nothing-in (y ∷ l) x i = refl
 
@@ -288,6 +306,7 @@ pub in-nothing : (l : List ℕ) → ((x : ℕ) → In x l → ⊥) → nothing l
 in-nothing [] h = refl
 in-nothing (x ∷ l) h = absurd (h x (inl refl))
 
+-- The cycle passes if every lock that all its threads hold has a reader.
 pub all-read-passes : (c : List ℕ) (w : Waits) (p : List ℕ) → allRead c (upward 64 (commonMask (w .«thread_holds») 18446744073709551615 p)) ≡ passes c w p
 unfolding commonLocks
 all-read-passes c w p = ap (allRead c) (all-hold w p) ∙ go (allRead c (those (λ l. allHold w p l) 64)) refl
@@ -304,8 +323,9 @@ all-read-passes c w p = ap (allRead c) (all-hold w p) ∙ go (allRead c (those (
         sym (nothing-in (those (λ l. cond (allHold w p l) (nobodyReads c l) false) 64) (q .0)
         (in-those (λ l. cond (allHold w p l) (nobodyReads c l) false) 64 (q .0) (i .0) (ap (λ (x : Bool). cond x (nobodyReads c (q .0)) false) (i .1) ∙ q .2)))
 
--- ---- whether a lock is read
+-- ---- Whether a lock has readers
 
+-- A lock has no readers exactly when its mask of readers is 0.
 pub nobody-zero : (c : List ℕ) (l m : ℕ) → upward 32 m ≡ readers c l → m ≡ 0 → nobodyReads c l ≡ true
 nobody-zero c l m e z = ap nothing (sym e ∙ ap (upward 32) z ∙ upward-zero 32 0)
 
@@ -313,6 +333,7 @@ pub nobody-some : (c : List ℕ) (l m : ℕ) → upward 32 m ≡ readers c l →
 nobody-some c l m e p h = ap nothing (sym e ∙ upward-step 32 m p h)
 
 module _ (c : List ℕ) (m : ℕ) (p : 0 < m) (h : m < 2 ^ 64) where
+  -- The loop stops at a lock without readers, and goes on at one with readers.
   pub read-stop : nobodyReads c (lowest 64 m) ≡ true → false ≡ allRead c (upward 64 m)
   unfolding allRead
   read-stop e = rw (upward-step 64 m p h, e)

@@ -1,4 +1,4 @@
--- The rules run on the places where document 01's words allow two readings, and on its sessions' turning points.
+-- The rules run on small tables, at the points where they are easily read in another way.
 use mathlib.Core.Path.{_≡_, refl}
 use mathlib.Core.List.{List, [], _∷_}
 use mathlib.Core.Bool.{true, false}
@@ -20,42 +20,44 @@ use Rattle.waits.specs.declared.intent.WaitIntent.{WaitIntent}
 use Rattle.waits.specs.declared.intent.WaitMode.the-variants.{RwWrite}
 use Rattle.waits.specs.declared.intent.Awaits.the-variants.{For}
 
+-- Returns the counts without readers.
 noCounts : List ℕ
 noCounts = replicate 2048 0
 
--- thread t reads lock l once
+-- Returns the counts with one read of l by t.
 reading : List ℕ → ℕ → ℕ → List ℕ
 reading c t l = set c (place t l) 1
 
+-- Returns the intent to write l.
 writing : ℕ → WaitIntent
 writing l = record { «lock_id» = l; mode = RwWrite }
 
--- readers upward, the writer last even where its number is lower
+-- The writer comes after the readers, even if its number is lower.
 writer-last : owners (reading noCounts 5 7) (write empty 2 7) (writing 7) ≡ 5 ∷ 2 ∷ []
 unfolding noCounts reading writing readers those among
 writer-last = refl
 
--- a writer that reads too stands once, among the readers
+-- A writer that also reads is listed once, among the readers.
 writer-once : owners (reading (reading noCounts 5 7) 2 7) (write empty 2 7) (writing 7) ≡ 2 ∷ 5 ∷ []
 unfolding noCounts reading writing readers those among
 writer-once = refl
 
--- the waiter itself is not left out: its own read blocks its write
+-- The thread that waits may be among the owners: its own read blocks its write.
 self-blocks : register (reading noCounts 3 7) empty 3 (writing 7) .found ≡ some (3 ∷ [])
 unfolding noCounts reading writing readers those among register setIntent clear clearWaitEdges cutAll bit with without upwardFrom addOwners addNext addEdge closing stored findPath search expand visit wayBack
 self-blocks = refl
 
--- after the first path the rest of the owners is still linked: edge 3 to 4, digit 4 of row 3
+-- After the first path the other owners still get their edges: here the edge from 3 to 4, digit 4 of row 3.
 rest-linked : row (register (reading (reading noCounts 3 7) 4 7) empty 3 (writing 7) .waits .«wait_for_graph» .edges) 3 ≡ 16
 unfolding noCounts reading writing readers those among register setIntent clear clearWaitEdges cutAll bit with without upwardFrom addOwners addNext addEdge closing stored findPath search expand visit wayBack
 rest-linked = refl
 
--- a mutex without an owner: intent and waiter, no edge
+-- On a mutex without an owner a thread still gets its intent and becomes a waiter.
 free-mutex : (intentOf (register noCounts empty 2 (mutexOn 5) .waits) 2 ≡ For (mutexOn 5)) × (waitersOf (register noCounts empty 2 (mutexOn 5) .waits) 5 ≡ 4)
 unfolding noCounts readers those among register setIntent clear clearWaitEdges cutAll bit with without upwardFrom addOwners
 free-mutex = (refl, refl)
 
--- a cycle whose threads share a lock is passed over; a lock that somebody reads does not count
+-- A cycle whose threads have a lock in common does not pass the filter, unless the lock has a reader.
 shared-lock : passes noCounts (hold empty 1 5) (1 ∷ []) ≡ false
 unfolding noCounts readers those allHold commonLocks bit with
 shared-lock = refl

@@ -1,4 +1,4 @@
--- The rules of waiting of document 01, in its order.
+-- The rules of waiting (docs/RULES.md), the tables they work on, and what the calls promise.
 pub mod Tables
 pub mod Counts
 pub mod Owners

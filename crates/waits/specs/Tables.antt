@@ -1,4 +1,4 @@
--- The tables that every event may touch, under document 01's names.
+-- The tables that every event may change.
 use mathlib.Core.List.{List}
 use Prim.Native.Nat.{ℕ, _<_, _≤_}
 use lib.ListN.{getD, set, replicate}
@@ -13,32 +13,37 @@ use Rattle.waits.specs.declared.intent.Awaits.{Awaits}
 use Rattle.waits.specs.declared.intent.Awaits.the-variants.{Nothing, For}
 
 -- READING
+-- Returns the slot of a thread without an intent.
 abbrev pub noSlot : Slot
 noSlot = record { awaits = Nothing }
 
--- the intent of thread t, or nothing
+-- Returns the intent of thread t, or Nothing.
 abbrev pub intentOf : Waits → ℕ → Awaits
 intentOf w t = getD (w .«thread_waits_for») t noSlot .awaits
 
--- the lock that an intent names; 0 where there is none
+-- Returns the lock that an intent names, or 0 if there is none.
 abbrev pub lockOf : Awaits → ℕ
 lockOf Nothing = 0
 lockOf (For i) = i .«lock_id»
 
--- the waiters of lock l, the locks that thread t holds, the mutex owner and the writer of lock l (32: none)
+-- Returns the waiters of lock l as a set.
 abbrev pub waitersOf : Waits → ℕ → ℕ
 waitersOf w l = row (w .«lock_waiters») l
 
+-- Returns the holds of thread t as a set.
 abbrev pub holdsOf : Waits → ℕ → ℕ
 holdsOf w t = row (w .«thread_holds») t
 
+-- Returns the owner of the mutex l, or nobody.
 abbrev pub ownerOf : Waits → ℕ → ℕ
 ownerOf w l = row (w .«mutex_owners») l
 
+-- Returns the writer of lock l, or nobody.
 abbrev pub writerOf : Waits → ℕ → ℕ
 writerOf w l = row (w .«rwlock_writer») l
 
 -- WRITING
+-- Returns the tables with another graph.
 abbrev pub withGraph : Waits → WaitForGraph → Waits
 withGraph w g =
     record {
@@ -50,6 +55,7 @@ withGraph w g =
       «rwlock_writer» = w .«rwlock_writer»;
     }
 
+-- Returns the tables with other intents and other waiters.
 abbrev pub withIntents : Waits → List Slot → List ℕ → Waits
 withIntents w s l =
     record {
@@ -61,6 +67,7 @@ withIntents w s l =
       «rwlock_writer» = w .«rwlock_writer»;
     }
 
+-- Returns the tables with other holds.
 abbrev pub withHolds : Waits → List ℕ → Waits
 withHolds w h =
     record {
@@ -72,7 +79,7 @@ withHolds w h =
       «rwlock_writer» = w .«rwlock_writer»;
     }
 
--- the mutex owner, or the writer, of l is o
+-- Returns the tables with o as the owner of the mutex l.
 abbrev pub own : Waits → ℕ → ℕ → Waits
 own w o l =
     record {
@@ -84,6 +91,7 @@ own w o l =
       «rwlock_writer» = w .«rwlock_writer»;
     }
 
+-- Returns the tables with o as the writer of l.
 abbrev pub write : Waits → ℕ → ℕ → Waits
 write w o l =
     record {
@@ -95,14 +103,15 @@ write w o l =
       «rwlock_writer» = set (w .«rwlock_writer») l o;
     }
 
--- l joins, or leaves, t's holds
+-- Returns the tables with l added to t's holds.
 abbrev pub hold : Waits → ℕ → ℕ → Waits
 hold w t l = withHolds w (set (w .«thread_holds») t (with (holdsOf w t) l))
 
+-- Returns the tables with l taken out of t's holds.
 abbrev pub unhold : Waits → ℕ → ℕ → Waits
 unhold w t l = withHolds w (set (w .«thread_holds») t (without (holdsOf w t) l))
 
--- nothing present anywhere
+-- Returns the empty tables: no edges, no intents, no waiters, no holds, and nobody as owner or writer.
 abbrev pub empty : Waits
 empty =
     record {
@@ -114,7 +123,8 @@ empty =
       «rwlock_writer» = replicate LOCKS NOBODY;
     }
 
--- what refusal 2 asks of these tables; their types keep the sets in range
+-- States what refusal 2 asks of these tables: every intent names a lock below 64, and every owner and writer is a
+-- thread below 32 or nobody. The sets are kept in range by their types.
 pub record InRange (w : Waits) : Type 0 where
   pub locks : (t : ℕ) → lockOf (intentOf w t) < LOCKS
   pub owner : (l : ℕ) → ownerOf w l ≤ NOBODY

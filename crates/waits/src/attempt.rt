@@ -1,4 +1,4 @@
-// What every event that may report is made of: a registering or a refresh, and the judgement of its path.
+// What the events that may report are made of: registering or refreshing, and judging the path that is found.
 ghost use mathlib.Core.Path.{_≡_};
 ghost use Prim.Native.Nat.{_+_, _<_, _≤_};
 ghost use lib.ListN.{length};
@@ -20,7 +20,7 @@ use graph::Sought;
 use graph::Way;
 
 impl Waits {
-    // Nothing to tell.
+    // Returns these tables with no report. The buffer stays as it is, and `from` is still the next place in it.
     pub fn quiet(self, from: usize) -> Judged
         ensures { λ r. ⌜ r ≡ record { waits = self; reports = 0; used = from } ⌝ }
     {
@@ -31,7 +31,7 @@ impl Waits {
         }
     }
 
-    // A path found is validated.
+    // Validates the path that a search found. If it found none, nothing is reported.
     fn judge(self, counts: &[u8; Waits::COUNTS], s: Sought, buf: &mut [u8], from: usize) -> Judged
         requires { ⌜ InRange self × Fit (s .path) × (from + reportBytes ≤ length (now buf)) ⌝ }
         ensures { λ r. ⌜ Judges r (now (buf .entry)) (now (buf .exit)) from (judgeFound (now (counts .entry)) self (foundIn s)) ⌝ }
@@ -44,7 +44,7 @@ impl Waits {
         self.validated_deadlock_info(counts, cycle, buf, from)
     }
 
-    // Has l neither reader nor writer?
+    // Returns true if l has neither a reader nor a writer.
     fn is_free(self, counts: &[u8; Waits::COUNTS], l: usize) -> bool
         requires { ⌜ l < LOCKS ⌝ }
         ensures { λ r. ⌜ r ≡ free (now (counts .entry)) self l ⌝ }
@@ -56,7 +56,8 @@ impl Waits {
         false
     }
 
-    // A free lock blocks no writer.
+    // Returns true if a thread with this intent has nothing to wait for: it wants to write, and the lock is free. For
+    // the other modes the intent is registered in any case.
     fn is_free_for(self, counts: &[u8; Waits::COUNTS], i: WaitIntent) -> bool
         requires { ⌜ i .«lock_id» < LOCKS ⌝ }
         ensures { λ r. ⌜ r ≡ freeFor (i .mode) (now (counts .entry)) self (i .«lock_id») ⌝ }
@@ -70,7 +71,8 @@ impl Waits {
         }
     }
 
-    // A mutex's path must pass the filter.
+    // Returns true if the path may be validated. A path found for a mutex must pass the filter; one found for a read or
+    // a write always may.
     fn passes_for(self, counts: &[u8; Waits::COUNTS], i: WaitIntent, cycle: Path) -> bool
         requires { ⌜ Fit cycle ⌝ }
         ensures { λ r. ⌜ r ≡ passesFor (i .mode) (now (counts .entry)) self (listOf cycle) ⌝ }
@@ -83,7 +85,7 @@ impl Waits {
         }
     }
 
-    // Refresh l, validate a path.
+    // Refreshes l's waiters, and validates a path that the refresh finds.
     pub fn settle(
         mut self,
         counts: &[u8; Waits::COUNTS],
@@ -101,7 +103,9 @@ impl Waits {
         self.judge(counts, s, buf, from)
     }
 
-    // Register, judge the path. One function for all modes, so that the tables are handed on once.
+    // Registers t's intent on l and validates a path that is found; if the mode is Mutex, the path must pass the filter
+    // first. Does nothing if t wants to write and l is free. One function serves all modes, so that the compiler passes
+    // the tables on only once.
     pub fn attempt(
         self,
         counts: &[u8; Waits::COUNTS],

@@ -8,7 +8,7 @@ use crate::tables::Waits;
 use sets::THREADS;
 use sets::threads;
 
-// Where the count of lock l and thread t stands.
+// Returns the place of the count of thread t and lock l.
 pub fn place(t: usize, l: usize) -> usize
     requires { ⌜ (l < LOCKS) × (t < THREADS) ⌝ }
     ensures { λ r. ⌜ (r ≡ place t l) × (r < COUNTS) ⌝ }
@@ -16,7 +16,7 @@ pub fn place(t: usize, l: usize) -> usize
     l * THREADS + t
 }
 
-// The readers of a lock, from its 32 counts.
+// Returns the readers of the lock as a set: the threads whose count is not 0.
 pub(crate) fn reader_mask(counts: &[u8; Waits::COUNTS], lock: usize) -> u32
     requires { ⌜ lock < LOCKS ⌝ }
     ensures { λ r. ⌜ upward THREADS r ≡ readers (now (counts .entry)) lock ⌝ }
@@ -33,6 +33,7 @@ pub(crate) fn reader_mask(counts: &[u8; Waits::COUNTS], lock: usize) -> u32
     m
 }
 
+// Returns the counts with one more read of l by t. That count must be below 255.
 pub fn counted_up(counts: [u8; Waits::COUNTS], t: usize, l: usize) -> [u8; Waits::COUNTS]
     requires { ⌜ (t < THREADS) × (l < LOCKS) × (countOf counts t l ≡ 255 → ⊥) ⌝ }
     ensures { λ r. ⌜ r ≡ countUp counts t l ⌝ }
@@ -44,6 +45,7 @@ pub fn counted_up(counts: [u8; Waits::COUNTS], t: usize, l: usize) -> [u8; Waits
     r
 }
 
+// Returns the counts with one read less of l by t. A count of 0 stays 0.
 pub fn counted_down(counts: [u8; Waits::COUNTS], t: usize, l: usize) -> [u8; Waits::COUNTS]
     requires { ⌜ (t < THREADS) × (l < LOCKS) ⌝ }
     ensures { λ r. ⌜ r ≡ countDown counts t l ⌝ }
@@ -57,6 +59,7 @@ pub fn counted_down(counts: [u8; Waits::COUNTS], t: usize, l: usize) -> [u8; Wai
     r
 }
 
+// Returns the counts with no readers of l.
 pub fn no_readers(counts: [u8; Waits::COUNTS], l: usize) -> [u8; Waits::COUNTS]
     requires { ⌜ l < LOCKS ⌝ }
     ensures { λ r. ⌜ r ≡ noReaders counts l ⌝ }

@@ -1,4 +1,4 @@
-// The filter by common locks, and the report.
+// The filter by common locks, and the writing of a report.
 ghost use mathlib.Core.Path.{_≡_};
 ghost use Prim.Native.Nat.{_+_, _*_, _≤_};
 ghost use lib.ListN.{length};
@@ -17,7 +17,7 @@ use crate::tables::Waits;
 use graph::Path;
 use sets::locks;
 
-// Does every lock of the set have a reader?
+// Returns true if every lock of the set has a reader.
 fn all_read(counts: &[u8; Waits::COUNTS], common: u64) -> bool
     ensures { λ r. ⌜ r ≡ allRead (now (counts .entry)) (upward LOCKS common) ⌝ }
 {
@@ -34,7 +34,7 @@ fn all_read(counts: &[u8; Waits::COUNTS], common: u64) -> bool
 }
 
 impl Waits {
-    // The locks that all threads of a cycle hold.
+    // Returns the locks that are in the holds of every thread of the cycle.
     fn common_holds(self, cycle: Path) -> u64
         requires { ⌜ Fit cycle ⌝ }
         ensures { λ r. ⌜ r ≡ commonMask (self .«thread_holds») 18446744073709551615 (listOf cycle) ⌝ }
@@ -50,7 +50,7 @@ impl Waits {
         intersection
     }
 
-    // Does the cycle pass: do its threads share no lock that nobody reads?
+    // Returns true if the cycle passes the filter: every lock that each of its threads holds has a reader.
     pub(crate) fn filter_cycle_by_common_locks(
         self,
         counts: &[u8; Waits::COUNTS],
@@ -63,7 +63,8 @@ impl Waits {
         all_read(counts, common)
     }
 
-    // The number of threads, then each with the lock that it awaits.
+    // Writes the report of the cycle from the place `from` on: the number of its entries, then for each thread an entry
+    // with the thread and the lock it awaits. Returns the place after the report.
     fn write_report(self, cycle: Path, buf: &mut [u8], from: usize) -> usize
         requires { ⌜ Fit cycle × (from + reportBytes ≤ length (now buf)) ⌝ }
         ensures { λ r. ⌜ (now (buf .exit) ≡ laid (now (buf .entry)) from (bytesOf (report self (listOf cycle)))) × (r ≡ from + 1 + entryBytes * cycle .len) ⌝ }
@@ -85,7 +86,7 @@ impl Waits {
         at
     }
 
-    // One report, from a place on.
+    // Reports the cycle from the place `from` on, and returns these tables with one report.
     pub(crate) fn report(self, cycle: Path, buf: &mut [u8], from: usize) -> Judged
         requires { ⌜ InRange self × Fit cycle × (from + reportBytes ≤ length (now buf)) ⌝ }
         ensures { λ r. ⌜ Judges r (now (buf .entry)) (now (buf .exit)) from (reporting self (listOf cycle)) ⌝ }

@@ -1,4 +1,4 @@
-// The words of waiting, the tables that every event may touch, and the rules of waiting over them.
+// Waiting: intents and outcomes, the tables that every event may change, and the rules of waiting on these tables.
 mod attempt;
 mod counts;
 mod deadlock_handling;

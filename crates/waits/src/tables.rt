@@ -1,4 +1,4 @@
-// The tables that every event may touch, and what the rules hand back.
+// The tables that every event may change, and what the rules hand back.
 ghost use mathlib.Core.Path.{_≡_};
 ghost use Rattle.waits.specs.Tables.{empty};
 use crate::intent::Awaits;
@@ -9,6 +9,8 @@ use sets::LOCKS;
 use sets::NOBODY;
 use sets::THREADS;
 
+// Holds the graph, each thread's intent, each lock's waiters, each thread's holds, and each lock's owner and writer,
+// which may be nobody.
 pub struct Waits {
     pub wait_for_graph: WaitForGraph,
     pub thread_waits_for: [Slot; THREADS],
@@ -18,19 +20,19 @@ pub struct Waits {
     pub rwlock_writer: [u8; LOCKS],
 }
 
-// The owners that block a wait, in order: the readers upward, then the last (32: none).
+// The owners that block an intent, in order: the readers upward, then `last`, which is nobody if there is no other.
 pub struct Owners {
     pub readers: u32,
     pub last: usize,
 }
 
-// The tables after a registering or a refresh, and the first path found.
+// The tables after registering or refreshing, and the first path found.
 pub struct Linked {
     pub waits: Waits,
     pub sought: Sought,
 }
 
-// The tables after a judgement, the number of reports, and the place behind them in the buffer.
+// The tables after a path was judged, the number of reports, and the place after them in the buffer.
 pub struct Judged {
     pub waits: Waits,
     pub reports: usize,
@@ -38,15 +40,16 @@ pub struct Judged {
 }
 
 impl Waits {
-    // The number that stands for no thread, as the tables have it.
+    // Stands for nobody in the tables of owners and writers.
     pub const NOBODY: u8 = NOBODY as u8;
-    // A count for each thread and lock.
+    // How many reader counts there are: one for each lock and thread.
     pub const COUNTS: usize = LOCKS * THREADS;
-    // A report's entry: the thread and the lock that it awaits.
+    // The bytes of an entry: the thread, and the lock it awaits.
     pub const ENTRY_BYTES: usize = 2;
-    // The longest report: 32 entries and their number.
+    // The bytes of the longest report: the number of its entries, and 32 entries.
     pub const REPORT_BYTES: usize = 1 + THREADS * Waits::ENTRY_BYTES;
 
+    // Returns the empty tables: no edges, no intents, no waiters, no holds, and nobody as owner or writer.
     pub fn new() -> Waits
         ensures { λ r. ⌜ r ≡ empty ⌝ }
     {

@@ -1,4 +1,4 @@
-// Intents, owners, registering, refreshing, validating: the rules of `wait.rs`.
+// The rules of waiting: intents, the owners that block them, registering, refreshing and validating.
 ghost use mathlib.Core.Path.{_≡_};
 ghost use mathlib.Core.List.{_++_};
 ghost use Prim.Native.Nat.{_+_, _<_, _≤_};
@@ -32,6 +32,7 @@ use sets::THREADS;
 use sets::locks;
 use sets::threads;
 
+// Returns the set m with the lock that the intent names added, or m if there is no intent.
 fn with_awaited(m: u64, s: Slot) -> u64
     requires { ⌜ lockOf (s .awaits) < LOCKS ⌝ }
     ensures { λ r. ⌜ r ≡ withAwaited m (s .awaits) ⌝ }
@@ -44,9 +45,9 @@ fn with_awaited(m: u64, s: Slot) -> u64
     locks::with(m, l)
 }
 
-// A table that is read at one place is copied to a local first: then the compiler copies that table and not all of them.
+// A table that is read at one place is copied to a local first, so that the compiler copies it and not all of them.
 impl Waits {
-    // Takes t out of its intent and its lock's waiters.
+    // Removes t's intent and takes t out of the waiters of the lock it named. Does nothing if t has no intent.
     fn forget_intent(mut self, t: usize) -> Waits
         requires { ⌜ (t < THREADS) × InRange self ⌝ }
         ensures { λ r. ⌜ r ≡ unwaited self t (intentOf self t) ⌝ }
@@ -64,7 +65,7 @@ impl Waits {
         self
     }
 
-    // Drops all edges from t.
+    // Drops every edge from t. If there are none, the graph is not touched.
     fn unlink(mut self, t: usize) -> Waits
         requires { ⌜ t < THREADS ⌝ }
         ensures { λ r. ⌜ r ≡ withGraph self (clearWaitEdges (self .«wait_for_graph») t) ⌝ }
@@ -78,6 +79,8 @@ impl Waits {
         self
     }
 
+    // Clears t's intent: removes it, takes t out of the waiters of the lock it named, and drops every edge from t. The
+    // edges go even if t has no intent.
     pub fn clear_wait_intent(self, t: usize) -> Waits
         requires { ⌜ (t < THREADS) × InRange self ⌝ }
         ensures { λ r. ⌜ (r ≡ clear self t) × InRange r ⌝ }
@@ -86,6 +89,7 @@ impl Waits {
         w.unlink(t)
     }
 
+    // Clears t's intent, then gives t the intent i and adds t to the waiters of its lock. Adds no edges.
     fn set_wait_intent(self, t: usize, i: WaitIntent) -> Waits
         requires { ⌜ (t < THREADS) × InRange self × (i .«lock_id» < LOCKS) ⌝ }
         ensures { λ r. ⌜ (r ≡ setIntent self t i) × InRange r ⌝ }
@@ -100,6 +104,8 @@ impl Waits {
         w
     }
 
+    // Returns the owners that block the intent i: for a mutex its owner, for a read the writer, for a write the readers
+    // and then the writer if it does not read too. The thread that waits may be among them.
     pub fn incompatible_owners(self, counts: &[u8; Waits::COUNTS], i: WaitIntent) -> Owners
         requires { ⌜ InRange self × (i .«lock_id» < LOCKS) ⌝ }
         ensures { λ r. ⌜ (upward THREADS (r .readers) ++ one (r .last) ≡ owners (now (counts .entry)) self i) × (r .last ≤ NOBODY) ⌝ }
@@ -134,6 +140,7 @@ impl Waits {
         }
     }
 
+    // Registers t: sets its intent and adds an edge to each owner that blocks it, in order. Returns the first path.
     pub(crate) fn register_wait(
         self,
         counts: &[u8; Waits::COUNTS],
@@ -153,7 +160,8 @@ impl Waits {
         Linked { waits: w, sought }
     }
 
-    // The edges of one waiter anew, where it has an intent; a path found before is kept.
+    // Drops the edges of the waiter t and adds an edge to every owner that blocks its intent. Keeps a path found
+    // before. Does nothing if t has no intent.
     fn renew(self, counts: &[u8; Waits::COUNTS], a: Added, t: usize) -> Added
         requires { ⌜ (t < THREADS) × InRange self ⌝ }
         ensures { λ r. ⌜ r ≡ renewC (now (counts .entry)) self a t ⌝ }
@@ -174,7 +182,7 @@ impl Waits {
         Added { graph, sought }
     }
 
-    // The graph after it, and the path: a refresh changes no other table.
+    // Refreshes l's waiters. Returns only the graph and the first path found, since no other table changes.
     pub fn refresh_waiters_for_lock(self, counts: &[u8; Waits::COUNTS], l: usize) -> Added
         requires { ⌜ (l < LOCKS) × InRange self ⌝ }
         ensures { λ r. ⌜ r ≡ added (refreshed (now (counts .entry)) self l) ⌝ }
@@ -184,6 +192,7 @@ impl Waits {
         self.renew_all(counts, waiters)
     }
 
+    // Renews the edges of each of the waiters, upward, and keeps the first path.
     fn renew_all(self, counts: &[u8; Waits::COUNTS], waiters: u32) -> Added
         requires { ⌜ InRange self ⌝ }
         ensures { λ r. ⌜ r ≡ added (renewAll (now (counts .entry)) self (upward THREADS waiters)) ⌝ }
@@ -200,7 +209,7 @@ impl Waits {
         a
     }
 
-    // The locks of a set, upward, each once; the first path of all is kept.
+    // Refreshes the waiters of each lock of the set, upward, and keeps the first path of all.
     fn refresh_all(self, counts: &[u8; Waits::COUNTS], set: u64) -> Linked
         requires { ⌜ InRange self ⌝ }
         ensures { λ r. ⌜ (r ≡ linked (refreshLocks (now (counts .entry)) self (upward LOCKS set))) × InRange (r .waits) ⌝ }
@@ -219,7 +228,7 @@ impl Waits {
         k
     }
 
-    // The locks that the threads of a cycle await.
+    // Returns the locks that the threads of the cycle await.
     fn awaited(self, cycle: Path) -> u64
         requires { ⌜ InRange self × Fit cycle ⌝ }
         ensures { λ r. ⌜ r ≡ awaitedMask self 0 (listOf cycle) ⌝ }
@@ -236,7 +245,7 @@ impl Waits {
         m
     }
 
-    // Does t truly wait for u?
+    // Returns true if t truly waits for u: t has an intent, and u is one of the owners that block it.
     fn waits_for(self, counts: &[u8; Waits::COUNTS], t: usize, u: usize) -> bool
         requires { ⌜ (t < THREADS) × (u < THREADS) × InRange self ⌝ }
         ensures { λ r. ⌜ r ≡ waitsFor (now (counts .entry)) self t u ⌝ }
@@ -255,6 +264,8 @@ impl Waits {
         threads::has(readers, u)
     }
 
+    // Returns true if the cycle is valid: it has a thread, and every thread truly waits for the one after it, the last
+    // one for the first.
     fn validate_wait_cycle(self, counts: &[u8; Waits::COUNTS], cycle: Path) -> bool
         requires { ⌜ InRange self × Fit cycle ⌝ }
         ensures { λ r. ⌜ r ≡ valid (now (counts .entry)) self (listOf cycle) ⌝ }
@@ -278,7 +289,8 @@ impl Waits {
         self.waits_for(counts, source, first)
     }
 
-    // Reports the cycle if it is true; else refreshes the awaited locks and reports the path found then, if that is.
+    // Validates the cycle: reports it if it is valid. If not, refreshes the locks that its threads await, and reports
+    // the first path that this finds if it is valid. That path is not filtered.
     pub(crate) fn validated_deadlock_info(
         self,
         counts: &[u8; Waits::COUNTS],
@@ -309,7 +321,7 @@ impl Waits {
 }
 
 impl Linked {
-    // One lock more.
+    // Refreshes the waiters of one more lock, and keeps a path found before.
     fn refresh_next(self, counts: &[u8; Waits::COUNTS], l: usize) -> Linked
         requires { ⌜ (l < LOCKS) × InRange (self .waits) ⌝ }
         ensures { λ r. ⌜ (r ≡ refreshNextC (now (counts .entry)) self l) × InRange (r .waits) ⌝ }

@@ -1,1 +1,1 @@
-//! Stands where the source names a module whose text is not given. Empty: nothing of it is used.
+//! The source names this module, but its text is not given. It is empty because nothing of it is used.

@@ -1,4 +1,4 @@
-//! Stands where the source names a module whose text is not given. The two names are re-exported by
-//! the source; with the feature `stress-test` off nothing uses them.
+//! The source names this module, but its text is not given. The source re-exports the two names; nothing uses them
+//! while the feature `stress-test` is off.
 pub struct StressConfig;
 pub struct StressMode;

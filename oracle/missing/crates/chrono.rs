@@ -1,5 +1,5 @@
-//! A stand-in for the clock crate: the port leaves timestamps out, so the time is an empty text. It
-//! costs the Rust nothing, which favours it in the benchmark.
+//! This crate stands in for the clock crate. The port leaves timestamps out, so the time is an empty text. It costs the
+//! Rust nothing, which favours the Rust in the benchmark.
 pub struct Utc;
 
 impl Utc {

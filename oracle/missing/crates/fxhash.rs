@@ -1,5 +1,5 @@
-//! A stand-in for the hasher crate: the Fx hash, written from its description. Each word is folded in
-//! by rotating the hash 5 to the left, xor with the word, and a multiplication.
+//! This crate stands in for the hasher crate. It has the Fx hash, written from its description: for each word the hash
+//! is rotated 5 to the left, combined with the word by xor, and multiplied.
 use std::collections::{HashMap, HashSet};
 use std::hash::{BuildHasherDefault, Hasher};
 
@@ -26,7 +26,7 @@ impl Hasher for FxHasher {
             self.fold(u64::from_le_bytes(word));
         }
     }
-    // The source hashes numbers only; they go in as one word.
+    // The source hashes numbers only, and each is one word.
     #[inline]
     fn write_usize(&mut self, n: usize) {
         self.fold(n as u64);

@@ -1,4 +1,4 @@
-//! A stand-in for the crate of lazy statics, for the one form that the source uses.
+//! This crate stands in for the crate of lazy statics, in the one form that the source uses.
 #[macro_export]
 macro_rules! lazy_static {
     ($(static ref $name:ident : $kind:ty = $value:expr;)*) => {

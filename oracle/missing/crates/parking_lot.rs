@@ -1,12 +1,12 @@
-//! A stand-in for the lock around the detector. The driver has one thread, so that locking is free
-//! here: it costs the Rust nothing, which favours it in the benchmark.
+//! This crate stands in for the lock around the detector. The driver has one thread, so locking does nothing here. It
+//! costs the Rust nothing, which favours the Rust in the benchmark.
 use std::cell::UnsafeCell;
 use std::ops::{Deref, DerefMut};
 
 pub struct Mutex<T>(UnsafeCell<T>);
 pub struct MutexGuard<'a, T>(&'a UnsafeCell<T>);
 
-// The driver never starts a second thread and never holds two guards at once.
+// This is sound because the driver never starts a second thread and never holds two guards at once.
 unsafe impl<T> Sync for Mutex<T> {}
 unsafe impl<T> Send for Mutex<T> {}
 

@@ -1,5 +1,5 @@
-//! A stand-in for the derives that the source puts on its types: they derive nothing. The derive's
-//! own attribute is let through.
+//! This crate stands in for the derives that the source puts on its types. They derive nothing, and their attribute is
+//! let through.
 use proc_macro::TokenStream;
 
 #[proc_macro_derive(Serialize, attributes(serde))]

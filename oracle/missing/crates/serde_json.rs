@@ -1,4 +1,5 @@
-//! A stand-in: the source's default callback would print a report as JSON. It is never called here.
+//! This crate stands in for the one by which the source's default callback prints a report as JSON. That callback is
+//! never called here.
 pub fn to_string_pretty<T>(_: &T) -> Result<String, ()> {
     Err(())
 }

@@ -1,10 +1,10 @@
-//! Stands in the place of the missing thread module. As a child of `detector` it sees the private
-//! tables, so the driver asks everything here: it sends one event to the source, and reads the tables.
+//! This module stands in the place of the missing thread module. As a child of `detector` it sees the private tables,
+//! so the driver does everything through it: it sends an event to the source, and it reads the tables.
 use super::{GLOBAL_DETECTOR, WaitMode, mutex, rwlock};
 use crate::core::types::{DeadlockInfo, LockId, ThreadId};
 use crate::put_number;
 
-/// How an attempt came out.
+/// How a try came out: taken, blocked, or blocked with a hint.
 #[derive(Clone, Copy)]
 pub enum Outcome {
     Took,
@@ -13,15 +13,17 @@ pub enum Outcome {
 }
 
 impl Outcome {
+    /// Returns what the source's closure for the try returns: something if the lock was taken.
     fn taken(self) -> Option<()> {
         matches!(self, Outcome::Took).then_some(())
     }
+    /// Returns what the source's closure for the hint returns.
     fn hint(self) -> Option<ThreadId> {
         if let Outcome::Hint(t) = self { Some(t) } else { None }
     }
 }
 
-/// One event, with the numbers in the order of the script.
+/// One event, with its numbers in the order of the script.
 #[derive(Clone, Copy)]
 pub enum Event {
     Ma(usize, usize, Outcome),
@@ -44,12 +46,12 @@ pub enum Event {
     Ce(usize, usize, usize),
 }
 
-/// The (thread, lock) items of one report, in cycle order.
+/// The entries of one report, each a thread and its lock, in cycle order.
 pub type Report = Vec<(ThreadId, LockId)>;
 
-/// Sends one event to the source and adds the reports it gives. Where the source has a free function
-/// that does more than hand on to the method (the attempts), that function is called; where it sends
-/// the report off to the callback, the method is.
+/// Sends one event to the source and adds the reports that it gives. If the source has a free function that does more
+/// than call the method (for the attempts), that function is called. If the function sends the report to the callback,
+/// the method is called.
 pub fn serve(event: Event, reports: &mut Vec<Report>) {
     // The notifier's number is only logged.
     let nobody = 0;
@@ -125,23 +127,23 @@ pub fn serve(event: Event, reports: &mut Vec<Report>) {
     }
 }
 
-/// How many pairs stand in the queue of a condvar.
+/// Returns how many pairs stand in the queue of a condvar.
 pub fn queue_length(c: usize) -> usize {
     GLOBAL_DETECTOR.lock().cv_waiters.get(&c).map_or(0, |q| q.len())
 }
 
-/// How often a thread holds the read of a lock.
+/// Returns how many reads of a lock a thread has.
 pub fn read_count(l: LockId, t: ThreadId) -> usize {
     let d = GLOBAL_DETECTOR.lock();
     d.rwlock_readers.get(&l).and_then(|r| r.get(&t)).copied().unwrap_or(0)
 }
 
-/// How many pairs stand in `edges` now.
+/// Returns how many edges are stored now.
 pub fn edges_stored() -> usize {
     GLOBAL_DETECTOR.lock().wait_for_graph.edges.values().map(|s| s.len()).sum()
 }
 
-/// The rows of true waits: bit b of row a says that a awaits a lock that b owns so as to block it.
+/// Returns the rows of true waits: bit b of row a is set if b is among the owners that block the intent of a.
 pub fn true_waits() -> [u32; 32] {
     let d = GLOBAL_DETECTOR.lock();
     let mut rows = [0u32; 32];
@@ -153,13 +155,13 @@ pub fn true_waits() -> [u32; 32] {
     rows
 }
 
-/// One line for each table that is not empty, in the order of their names. An item is four numbers,
-/// put into order here, so that the same text comes out of hash maps and of ordered ones.
+/// Puts one line for each table that is not empty, in the order of their names. An item is kept as four numbers and
+/// sorted here, so that hash maps and ordered maps give the same text.
 pub fn put_tables(out: &mut Vec<u8>) {
     let d = GLOBAL_DETECTOR.lock();
     let g = &d.wait_for_graph;
 
-    // A queue's own order counts, so the place in the queue stands behind the condvar.
+    // The order of a queue counts, so the place in the queue comes after the condvar.
     let mut items = Vec::new();
     for (&c, queue) in &d.cv_waiters {
         items.extend(queue.iter().enumerate().map(|(i, &(t, l))| [c, i, t, l]));
@@ -220,8 +222,10 @@ pub fn put_tables(out: &mut Vec<u8>) {
     });
 }
 
+/// The numbers of one item; those that it does not use are 0.
 type Item = [usize; 4];
 
+/// Puts the line of a table with its items in order, or nothing if there are none.
 fn put_table(out: &mut Vec<u8>, name: &str, mut items: Vec<Item>, put: fn(&mut Vec<u8>, Item)) {
     if items.is_empty() {
         return;
@@ -236,6 +240,7 @@ fn put_table(out: &mut Vec<u8>, name: &str, mut items: Vec<Item>, put: fn(&mut V
     out.push(b'\n');
 }
 
+/// Puts numbers with a sign between them.
 fn put_parts(out: &mut Vec<u8>, parts: &[usize], between: u8) {
     for (i, &part) in parts.iter().enumerate() {
         if i > 0 {

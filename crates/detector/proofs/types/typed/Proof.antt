@@ -12,7 +12,7 @@ use lib.ListN.{length, getD}
 use Rattle.detector.proofs.types.typed.Statement.{statement}
 use Rattle.detector.proofs.types.typed.Tie as tie
 
--- an array of numbers of one width
+-- What is known of an array of numbers of one width makes it a `Table`.
 table : (l : List ℕ) (n max : ℕ) (w : Width) → 2 ^ bits w ≤ max → length l ≡ n → ((i : ℕ) → Fits w (getD l i 0)) → Table l n max
 table l n max w h e f = record { long = e; small = λ i. omega (arith, f i .fits, h) }
 

@@ -8,7 +8,7 @@ use Rattle.text.proofs.Digits.{decimal-one, decimal-length, decimal-sho
 use Rattle.text.proofs.decimal.places.Statement.{statement}
 use Rattle.text.proofs.decimal.places.Tie as tie
 
--- The digits counted and those of the rest are one more than all.
+-- The digits counted and the digits of rest are one more than the digits of n.
 abbrev Inv-loop : tie.InvT-loop
 Inv-loop n k₀ rest₀ k rest = (k + length (decimal rest) ≡ length (decimal n) + 1) × (length (decimal n) ≤ 20)
 

@@ -7,7 +7,7 @@ use Rattle.text.proofs.Digits.{Rest, rest-none, rest-more, rest-last, d
 use Rattle.text.proofs.decimal.put_digits.Statement.{statement}
 use Rattle.text.proofs.decimal.put_digits.Tie as tie
 
--- The digits of the rest are still to be put, before those that stand.
+-- The digits of rest are still to be put, and those after them stand in the buffer.
 abbrev Inv-loop : tie.InvT-loop
 Inv-loop out₀ at n k i₀ rest₀ out i rest = Rest n at i rest out₀ out × (i ≤ k) × (length out ≡ length out₀)
 

@@ -8,7 +8,7 @@ use Rattle.text.specs.Fields.{upTo}
 use Rattle.text.proofs.fields.up_to.Statement.{statement}
 use Rattle.text.proofs.fields.up_to.Tie as tie
 
--- What is still to come up to the next d ends where the part does.
+-- The next d from i on is the next d from a on.
 abbrev Inv-loop : tie.InvT-loop
 Inv-loop text d a i₀ i = (a ≤ i) × (i ≤ length text) × (i + length (upTo d (drop i text)) ≡ a + length (upTo d (drop a text)))
 

@@ -9,7 +9,7 @@ use Rattle.text.specs.Numbers.{numberOf, digitsFrom}
 use Rattle.text.proofs.number.read_number.Statement.{statement}
 use Rattle.text.proofs.number.read_number.Tie as tie
 
--- The value so far, read on over the digits that are left, is the number.
+-- Reading the digits that are left, with the value so far, gives the number.
 abbrev Inv-loop : tie.InvT-loop
 Inv-loop s n v₀ i₀ v i = (n ≡ length s) × (n ≤ 3) × (i ≤ n) × (v < 10 ^ i) × (digitsFrom v (drop i s) ≡ numberOf s)
 

@@ -9,7 +9,7 @@ use Rattle.text.proofs.Puts.{turn}
 use Rattle.text.proofs.put.put_bytes.Statement.{statement}
 use Rattle.text.proofs.put.put_bytes.Tie as tie
 
--- The first i bytes are put.
+-- The first i bytes are in the buffer.
 abbrev Inv-loop : tie.InvT-loop
 Inv-loop out₀ at s i₀ out i = (i ≤ length s) × (out ≡ sets out₀ at (take i s)) × (length out ≡ length out₀)
 

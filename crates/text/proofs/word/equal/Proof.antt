@@ -7,7 +7,7 @@ use Rattle.text.specs.Bytes.{same}
 use Rattle.text.proofs.word.equal.Statement.{statement}
 use Rattle.text.proofs.word.equal.Tie as tie
 
--- The texts are the same where the rest of them is.
+-- The texts are the same if they are the same from i on.
 abbrev Inv-loop : tie.InvT-loop
 Inv-loop s t i₀ i = (length s ≡ length t) × (i ≤ length s) × (same (drop i s) (drop i t) ≡ same s t)
 

@@ -110,7 +110,7 @@ enum-known-line c = search needs
 refusal-requires : tie.Need-refusal-requires Inv-loop μ-loop
 refusal-requires c κs = c .before .before .before .before .before .before .before .before .before .before .before .before .before .loop .inv .0 .moves .kept .valid
 
--- the state is valid, and the event is not refused
+-- The state is valid, and the event is not refused.
 valid : (c : tie.Then4 Inv-loop μ-loop) → Valid (c .before .before .before .before .before .before .before .before .before .before .before .before .before .before .before .loop .s)
 valid c = c .before .before .before .before .before .before .before .before .before .before .before .before .before .before .before .loop .inv .0 .moves .kept .valid
 
@@ -282,7 +282,7 @@ end-wait-requires c κs =
 enum-told : tie.Need-enum-told Inv-loop μ-loop
 enum-told c = search needs
 
--- where the ways of a line meet
+-- Here the cases of a line meet.
 met : (c : tie.At-match-came Inv-loop μ-loop) → Met (c .before .before .before .before .before .before .before .before .before .before .before .loop .s) (c .before .before .before .line-of .result) (c .before .before .before .before .before .before .before .before .before .before .before .loop .buf) (c .match .s) (c .match .reply) (c .match .buf)
 met c =
     let l = c .before .before .before .before .before .before .before .before .before .before .before .loop in

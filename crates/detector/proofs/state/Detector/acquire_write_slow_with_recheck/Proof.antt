@@ -13,7 +13,7 @@ use Rattle.detector.proofs.state.Detector.acquire_write_slow_with_reche
 }
 use Rattle.detector.proofs.state.Detector.acquire_write_slow_with_recheck.Tie as tie
 
--- where the arms meet: nobody waits, or the look has told
+-- After the test: either l has no waiters, or a path that the refresh found was validated.
 met : (c : tie.Joined2)
     → Judges (c .if2 .d) (c .before .before .before .before .before .before .before .before .before .args .buf .now) (c .if2 .buf) 0 (settle (c .before .before .before .before .before .before .before .before .before .args .self .«rwlock_readers») (c .before .before .before .gained .result) (c .before .before .before .before .before .before .before .before .before .args .l))
 met c =

@@ -7,7 +7,7 @@ use mathlib.Core.Logic.{⊎-elim}
 use Rattle.detector.proofs.state.Detector.complete_write.Statement.{statement}
 use Rattle.detector.proofs.state.Detector.complete_write.Tie as tie
 
--- where the arms meet: nobody waits, or the look has told
+-- After the test: either l has no waiters, or a path that the refresh found was validated.
 met : (c : tie.Joined1)
     → Judges (c .if1 .d) (c .before .before .before .before .before .before .before .args .buf .now) (c .if1 .buf) 0 (settle (c .before .before .before .before .before .before .before .args .self .«rwlock_readers») (c .before .before .before .gained .result) (c .before .before .before .before .before .before .before .args .l))
 met c =

@@ -19,7 +19,7 @@ use Rattle.sets.specs.Sets.{without}
 use Rattle.detector.proofs.state.Detector.release_mutex.Statement.{statement}
 use Rattle.detector.proofs.state.Detector.release_mutex.Tie as tie
 
--- the mutex was given up: owner and holds
+-- The owner and the holds are those of the rule.
 gave : (c : tie.Joined1) (n : ℕ) → n ≡ without (holdsOf (c .if1 .w) (c .before .before .before .args .t)) (c .before .before .before .args .l)
     → withHolds (c .if1 .w) (set (c .if1 .w .«thread_holds») (c .before .before .before .args .t) n)
     ≡ released (c .before .before .before .args .self .waits) (c .before .before .before .args .t) (c .before .before .before .args .l)
@@ -28,7 +28,7 @@ gave c n e =
     let a = c .before .before .before .args in
     rw e (⊎-elim (λ z. rw (z .1, eq-eqb _ _ (z .0 .taken))) (λ z. rw (z .1, ne-eqb _ _ (z .0 .left))) (c .if1 .came))
 
--- where the arms meet: nobody waits, or the waiters were refreshed
+-- After the test: either l has no waiters, or they were refreshed.
 met : (c : tie.Joined2)
     → c .if2 .w
     ≡ refresh (c .before .before .before .before .before .before .before .args .self .«rwlock_readers») (released (c .before .before .before .before .before .before .before .args .self .waits) (c .before .before .before .before .before .before .before .args .t) (c .before .before .before .before .before .before .before .args .l)) (c .before .before .before .before .before .before .before .args .l) .waits

@@ -17,7 +17,7 @@ use borrow.Author.Tests.{eq-eqb, ne-eqb}
 use Rattle.detector.proofs.state.Detector.release_read.Statement.{statement}
 use Rattle.detector.proofs.state.Detector.release_read.Tie as tie
 
--- the counts after one fell, and that one
+-- The counts are those of the rule, and the count for t and l is one less or 0.
 less : (c : tie.Joined1) → c .before .before .before .counted-down .result ≡ countDown (c .before .before .before .before .before .args .self .«rwlock_readers») (c .before .before .before .before .before .args .t) (c .before .before .before .before .before .args .l)
 less c =
     let a = c .before .before .before .before .before .args in
@@ -32,7 +32,7 @@ fallen c =
     let n : length (a .self .«rwlock_readers») ≡ 2048 = search needs in
     rw (less c, p .0) (count-down-at (a .self .«rwlock_readers») (a .l) (a .t) (rw (← p .0, n) (p .1)))
 
--- where the arms meet: the edges go where the count is 0 now
+-- After the test: the edges are dropped if the count is 0 then.
 met : (c : tie.Joined1)
     → c .if1 .w
     ≡ cond (eqb (countOf (c .before .before .before .before .before .args .self .«rwlock_readers») (c .before .before .before .before .before .args .t) (c .before .before .before .before .before .args .l) - 1) 0)
