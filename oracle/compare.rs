@@ -219,8 +219,8 @@ pub fn cut(lines: Vec<Vec<u8>>, differs: &mut dyn FnMut(&[Vec<u8>]) -> bool) -> 
     kept
 }
 
-/// Returns how far a script may be compared with the untouched source: the number of lines after each of which no
-/// thread awaits two owners and no lock has two waiters. `tables` is what the ordered copy prints. A `ca` on two pairs
+/// Returns how far a script may be compared with the untouched source: the number of lines after each of which each
+/// thread waits for one owner at most and each lock has one waiter at most. `tables` is what the ordered copy prints. A `ca` on two pairs
 /// or more ends it too, since the states between its pairs are not printed.
 pub fn single_lines(script: &[Vec<u8>], tables: &[u8]) -> usize {
     let mut state = State::default();
@@ -285,7 +285,7 @@ impl State {
         (0..16).map(|c| self.queue.iter().filter(|&&q| q == c).count()).max().unwrap_or(0)
     }
 
-    /// Returns true if no thread awaits two owners and no lock has two waiters.
+    /// Returns true if each thread waits for one owner at most and each lock has one waiter at most.
     fn single(&self) -> bool {
         let two_waiters = self.waiters.windows(2).any(|w| w[0] == w[1]);
         let two_owners = self.write_waits.iter().any(|&l| {

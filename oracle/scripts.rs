@@ -64,7 +64,7 @@ pub const KINDS: &[(&str, &str)] = &[
     ("long", "texts of many chunks, in odd pieces, with over-long lines"),
     ("soup", "any event with any small numbers"),
     ("wide", "any event with all numbers"),
-    ("single", "plausible locking where no thread awaits two owners and no lock has two waiters"),
+    ("single", "plausible locking where each thread waits for one owner at most and each lock has one waiter at most"),
     ("single-soup", "any event, up to where a thread would await two owners or a lock has two waiters"),
 ];
 

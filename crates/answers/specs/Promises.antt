@@ -5,5 +5,5 @@ use lib.ListN.{length}
 use Rattle.answers.specs.Reports.{reportsSize}
 
 -- States that the first n reports of b end within b.
-abbrev pub Held : ℕ → List ℕ → Type 0
-Held n b = reportsSize n b ≤ length b
+abbrev pub ReportsInside : ℕ → List ℕ → Type 0
+ReportsInside n b = reportsSize n b ≤ length b

@@ -11,7 +11,7 @@ use text::wide;
 ghost use Rattle.text.specs.Promises.{Room, Put};
 ghost use Rattle.detector.specs.Promises.{reportsOf};
 ghost use Rattle.answers.specs.Answers.{replyText, answerText, endText};
-ghost use Rattle.answers.specs.Promises.{Held};
+ghost use Rattle.answers.specs.Promises.{ReportsInside};
 
 // An item of a `cycle` line takes at most this many bytes with the tab before it.
 const ITEM_BYTES: usize = 8;
@@ -46,7 +46,7 @@ fn put_reply(out: &mut [u8], at: usize, line: usize, reply: Reply) -> usize
 // Puts the reply line and a `cycle` line for each report in the report buffer, and returns the place after
 // them. A refusal has no `cycle` lines.
 pub fn put_answer(out: &mut [u8], at: usize, line: usize, reply: Reply, buf: &[u8]) -> usize
-    requires { ⌜ Held (reportsOf reply) (now buf) ⌝ }
+    requires { ⌜ ReportsInside (reportsOf reply) (now buf) ⌝ }
     requires { ⌜ Room (now out) at (answerText line reply (now buf)) ⌝ }
     ensures { λ r. ⌜ Put (now (out .entry)) at (answerText line reply (now (buf .entry))) (now (out .exit)) r ⌝ }
 {

@@ -13,7 +13,7 @@ ghost use Rattle.text.specs.Promises.{Room, Put};
 ghost use Rattle.waits.specs.Report.{entryBytes};
 ghost use Rattle.answers.specs.Reports.{entryIn, entriesIn, reportIn, reportsIn};
 ghost use Rattle.answers.specs.Answers.{itemText, itemsText, cycleText, cyclesText};
-ghost use Rattle.answers.specs.Promises.{Held};
+ghost use Rattle.answers.specs.Promises.{ReportsInside};
 
 // Puts a tab and the item `thread:lock` of the entry that starts at `from` in the report buffer, and returns
 // the place after the item.
@@ -58,7 +58,7 @@ fn put_cycle(out: &mut [u8], at: usize, buf: &[u8], from: usize, n: usize) -> us
 // Puts a `cycle` line for each of the reports and returns the place after them. The first report starts at the
 // buffer's first byte.
 pub(crate) fn put_cycles(out: &mut [u8], at: usize, buf: &[u8], reports: usize) -> usize
-    requires { ⌜ Held reports (now buf) ⌝ }
+    requires { ⌜ ReportsInside reports (now buf) ⌝ }
     requires { ⌜ Room (now out) at (cyclesText (reportsIn reports (now buf))) ⌝ }
     ensures { λ r. ⌜ Put (now (out .entry)) at (cyclesText (reportsIn reports (now (buf .entry)))) (now (out .exit)) r ⌝ }
 {

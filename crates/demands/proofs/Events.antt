@@ -26,7 +26,7 @@ use Rattle.detector.specs.declared.state.Pair.{Pair}
 use Rattle.detector.proofs.Numbers.{inside-next, accepted}
 use Rattle.detector.specs.Effects.{effect}
 use Rattle.demands.specs.Invariants.{Fine, Seated, Kept}
-use Rattle.demands.specs.Demand3.{Passed, TrueReport, Each}
+use Rattle.demands.specs.Demand3.{Through, TrueReport, Each}
 use Rattle.demands.proofs.Keeping.{acquired-keeps, write-acquired-keeps}
 use Rattle.demands.proofs.Fine.{fine-own, fine-write, fine-rules}
 use Rattle.demands.proofs.Reports.{each-map, each-append, Made, Fair, fair-quiet, fair-settle, fair-block, fair-mutex}
@@ -43,8 +43,8 @@ accepted-full x room e h =
 -- ---- The reports of an event, with tables x before it and y after it
 
 -- A report that was made in waits that the event passed through is true.
-heard : (x : Tables) (e : Event) (y : Tables) {w : Waits} {r : Report} → Passed x e y (r .state) → Made (y .«rwlock_readers») w r → TrueReport x e y r
-heard x e y p m = record { cycle = m .cycle; passed = p }
+heard : (x : Tables) (e : Event) (y : Tables) {w : Waits} {r : Report} → Through x e y (r .state) → Made (y .«rwlock_readers») w r → TrueReport x e y r
+heard x e y p m = record { cycle = m .cycle; through = p }
 
 -- States that all reports of the event e, whose effect is a, are true.
 abbrev pub AllTrue : Tables → Event → Effect → Type 0

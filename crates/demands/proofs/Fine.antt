@@ -42,7 +42,7 @@ module _ {w : Waits} where
   pub held : Fine w → Held w
   held f = record { graph = f .graph .sized; range = f .range; shaped = f .shaped }
 
-  fine-of : Held w → Good (w .«wait_for_graph») → ((l t : ℕ) → has (waitersOf w l) t ≡ true → names (intentOf w t) l ≡ true) → Fine w
+  fine-of : Held w → Good (w .«wait_for_graph») → ((t l : ℕ) → has (waitersOf w l) t ≡ true → names (intentOf w t) l ≡ true) → Fine w
   fine-of h g n = record { graph = g; named = n; range = h .range; shaped = h .shaped }
 
 pub fine-graph : (w : Waits) (g : WaitForGraph) → Good g → Fine w → Fine (withGraph w g)
@@ -64,7 +64,7 @@ fine-unhold w t l f = fine-of (held-unhold w t l (held f)) (f .graph) (f .named)
 pub fine-emptied : (w : Waits) (l : ℕ) → l < 64 → Fine w → Fine (withIntents w (w .«thread_waits_for») (set (w .«lock_waiters») l 0))
 fine-emptied w l h f =
     fine-of (held-emptied w l (held f)) (f .graph)
-    (λ k t b. f .named k t (bit-has _ _ (emptied-row (w .«lock_waiters») l (rw (f .shaped .locks) h) k t .0 (has-bit _ _ b) .1)))
+    (λ t k b. f .named t k (bit-has _ _ (emptied-row (w .«lock_waiters») l (rw (f .shaped .locks) h) k t .0 (has-bit _ _ b) .1)))
 
 -- ---- Clear
 
@@ -76,7 +76,7 @@ module _ (w : Waits) (t : ℕ) (i : WaitIntent) (e : intentOf w t ≡ For i) (f 
       a = at-cut (w .«lock_waiters») (i .«lock_id») t (rw (f .shaped .locks) (lock-of w t i (f .range) e))
 
       before : ((l ≡ i .«lock_id») × (u ≡ t) → ⊥) → names (intentOf w u) l ≡ true
-      before n = f .named l u (bit-has _ _ (sym (a .else l u n) ∙ h))
+      before n = f .named u l (bit-has _ _ (sym (a .else l u n) ∙ h))
 
       go : Dec (u ≡ t) → Dec (l ≡ i .«lock_id») → names (getD (set (w .«thread_waits_for») t noSlot) u noSlot .awaits) l ≡ true
       go (yes p) (yes q) = absurd (omega (arith, a .there, rw (p, q) at h))
@@ -87,7 +87,7 @@ module _ (w : Waits) (t : ℕ) (i : WaitIntent) (e : intentOf w t ≡ For i) (f 
 
 fine-unwaited : (w : Waits) (t : ℕ) (a : Awaits) → intentOf w t ≡ a → Fine w → Fine (unwaited w t a)
 fine-unwaited w t Nothing e f = f
-fine-unwaited w t (For i) e f = fine-of (held-unwaited w t (For i) (held f)) (f .graph) (λ l u h. unwaited-named w t i e f l u (has-bit _ _ h))
+fine-unwaited w t (For i) e f = fine-of (held-unwaited w t (For i) (held f)) (f .graph) (λ u l h. unwaited-named w t i e f l u (has-bit _ _ h))
 
 pub unwaited-graph : (w : Waits) (t : ℕ) (a : Awaits) → unwaited w t a .«wait_for_graph» ≡ w .«wait_for_graph»
 unwaited-graph w t Nothing = refl
@@ -112,7 +112,7 @@ cleared-none w t h f = go (intentOf w t) refl
 
 pub fine-set : (w : Waits) (t : ℕ) (i : WaitIntent) → t < 32 → i .«lock_id» < 64 → Fine w → Fine (setIntent w t i)
 unfolding setIntent
-fine-set w t i h k f = fine-of (held-set w t i h k (held f)) (c .graph) (λ l v b. named-after l v (has-bit _ _ b))
+fine-set w t i h k f = fine-of (held-set w t i h k (held f)) (c .graph) (λ v l b. named-after l v (has-bit _ _ b))
   where
     c : Fine (clear w t)
     c = fine-clear w t h f
@@ -124,7 +124,7 @@ fine-set w t i h k f = fine-of (held-set w t i h k (held f)) (c .graph) (λ l v 
         a = at-put (clear w t .«lock_waiters») (i .«lock_id») t (rw (c .shaped .locks) k)
 
         before : ((l ≡ i .«lock_id») × (v ≡ t) → ⊥) → names (intentOf (clear w t) v) l ≡ true
-        before n = c .named l v (bit-has _ _ (sym (a .else l v n) ∙ b))
+        before n = c .named v l (bit-has _ _ (sym (a .else l v n) ∙ b))
 
         go : Dec (v ≡ t) → Dec (l ≡ i .«lock_id») → names (getD (set (clear w t .«thread_waits_for») t (record { awaits = For i })) v noSlot .awaits) l ≡ true
         go (yes p) (yes q) =
@@ -210,7 +210,7 @@ pub fine-empty : Fine empty
 fine-empty =
     record {
       graph = good-empty;
-      named = λ l t h. absurd (omega (arith, has-bit _ _ h, ap (λ (m : ℕ). bit m t) (blank 64 l), bit-zero t));
+      named = λ t l h. absurd (omega (arith, has-bit _ _ h, ap (λ (m : ℕ). bit m t) (blank 64 l), bit-zero t));
       range = range-empty;
       shaped = record { threads = refl; locks = refl; few = λ l. rw (blank 64 l) (lit< tt); holders = refl; held = λ t. rw (blank 32 t) (lit< tt); owned = refl; written = refl };
     }

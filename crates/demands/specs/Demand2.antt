@@ -1,4 +1,4 @@
--- DEMAND 2. For an event within these limits, the reply, the reports and every table after it are the same as in
+-- DEMAND 2. For an event within the limits (docs/RULES.md), the reply, the reports and every table after it are the same as in
 -- the Rust with ordered maps for its hash maps, which is shown by running both side by side (oracle/). They are
 -- also proved to be what the rules give (docs/RULES.md): that is stated here, for all calls from the empty state.
 use mathlib.Core.Path.{_≡_}

@@ -60,14 +60,14 @@ abbrev pub treated : Tables → ℕ → ℕ → Waits
 treated x c n = wakeAll (x .«rwlock_readers») (record { waits = x .waits; woken = x .«cv_woken»; reports = [] }) (take n (queueOf x c)) .waits
 
 -- States that w are the waits after the event e, or, for ca, those after some of the pairs were treated.
-abbrev pub Passed : Tables → Event → Tables → Waits → Type 0
-Passed x e y w = (w ≡ y .waits) ⊎ ((c : ℕ) × (n : ℕ) × (e ≡ CondvarNotifyAll c) × (w ≡ treated x c n))
+abbrev pub Through : Tables → Event → Tables → Waits → Type 0
+Through x e y w = (w ≡ y .waits) ⊎ ((c : ℕ) × (n : ℕ) × (e ≡ CondvarNotifyAll c) × (w ≡ treated x c n))
 
 -- States that the report r of the event e is true, with tables x before the event and y after it. Its bytes are
 -- those of the same entries: `bytesOf` (crate `waits`, specs/Report.antt).
 pub record TrueReport (x : Tables) (e : Event) (y : Tables) (r : Report) : Type 0 where
   pub cycle : TrueCycle (y .«rwlock_readers») (r .state) (entriesOf r)
-  pub passed : Passed x e y (r .state)
+  pub through : Through x e y (r .state)
 
 -- States that P holds of all reports in the list.
 abbrev pub Each : (Report → Type 0) → List Report → Type 0

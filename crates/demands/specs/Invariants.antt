@@ -38,7 +38,7 @@ pub record Fine (w : Waits) : Type 0 where
   -- The two tables of edges agree, and no edges lead from a thread back to itself.
   pub graph : Good (w .«wait_for_graph»)
   -- A thread among the waiters of the lock l has an intent that names l.
-  pub named : (l t : ℕ) → has (waitersOf w l) t ≡ true → names (intentOf w t) l ≡ true
+  pub named : (t l : ℕ) → has (waitersOf w l) t ≡ true → names (intentOf w t) l ≡ true
   pub range : InRange w
   pub shaped : Shaped (w .«thread_waits_for») (w .«lock_waiters») (w .«thread_holds») (w .«mutex_owners») (w .«rwlock_writer»)
 

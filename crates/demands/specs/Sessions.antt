@@ -139,33 +139,33 @@ ce t c l = CondvarWaitEnd t c l
 
 -- THE LIST. Holds an event with what is expected of it. An edge or an intent that the session as worked by hand
 -- leaves open is expected as the rules make it.
-pub record Line : Type 0 where
+pub record Played : Type 0 where
   pub event : Event
   pub expects : Seen
 
 -- Returns a line that reports nothing: the event, then the edges, intents and stuck threads after it.
-abbrev pub quiet : Event → Pairs → Pairs → ℕ → Line
+abbrev pub quiet : Event → Pairs → Pairs → ℕ → Played
 quiet e g i n = record { event = e; expects = record { refused = 0; reports = []; bytes = []; edges = g; intents = i; stuck = n } }
 
 -- Returns a line that reports these cycles, with their bytes, and then the same.
-abbrev pub cycles : Event → List Pairs → List ℕ → Pairs → Pairs → ℕ → Line
+abbrev pub cycles : Event → List Pairs → List ℕ → Pairs → Pairs → ℕ → Played
 cycles e rs b g i n = record { event = e; expects = record { refused = 0; reports = rs; bytes = b; edges = g; intents = i; stuck = n } }
 
 -- Returns a line that reports one cycle.
-abbrev pub cycle : Event → Pairs → List ℕ → Pairs → Pairs → ℕ → Line
+abbrev pub cycle : Event → Pairs → List ℕ → Pairs → Pairs → ℕ → Played
 cycle e r b g i n = cycles e (r ∷ []) b g i n
 
 -- Returns a line that is refused by this number, in tables without an edge or an intent.
-abbrev pub refused : Event → ℕ → Line
+abbrev pub refused : Event → ℕ → Played
 refused e n = record { event = e; expects = record { refused = n; reports = []; bytes = []; edges = []; intents = []; stuck = 0 } }
 
 -- Holds a session: its number and its lines. Session 2 has two parts, each with this number.
 pub record Session : Type 0 where
   pub number : ℕ
-  pub lines : List Line
+  pub lines : List Played
 
 -- Returns a session of this number and these lines.
-abbrev pub session : ℕ → List Line → Session
+abbrev pub session : ℕ → List Played → Session
 session n ls = record { number = n; lines = ls }
 
 -- The ten sessions.

@@ -18,9 +18,9 @@ use Rattle.detector.specs.declared.state.Detector.{Detector}
 use Rattle.detector.specs.declared.condvar.Awake.{Awake}
 use Rattle.detector.specs.declared.reply.Done.{Done}
 use Rattle.detector.specs.declared.reply.Stepped.{Stepped}
-use Rattle.detector.specs.declared.reply.Count.{Count}
-use Rattle.detector.specs.declared.reply.Count.the-variants as count
-use Rattle.detector.specs.declared.reply.Count.the-variants.{Threads}
+use Rattle.detector.specs.declared.reply.StuckReply.{StuckReply}
+use Rattle.detector.specs.declared.reply.StuckReply.the-variants as count
+use Rattle.detector.specs.declared.reply.StuckReply.the-variants.{Threads}
 use Rattle.detector.specs.declared.reply.Reply.{Reply}
 use Rattle.detector.specs.declared.reply.Reply.the-variants.{Reports, Refused}
 
@@ -46,7 +46,7 @@ unfoldable pub refusalOf : Detector → ℕ → Event → ℕ
 refusalOf d room e = cond (validTest d) (refusal (tables d) room e) 2
 
 -- Returns how many threads are stuck, or refusal 2 if the state is not valid.
-abbrev pub stuckOf : Detector → Count
+abbrev pub stuckOf : Detector → StuckReply
 stuckOf d = cond (validTest d) (Threads (stuckCount (tables d))) (count.Refused 2)
 
 -- Returns the number of the refusal, or 0 if the event was served.

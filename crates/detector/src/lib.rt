@@ -12,10 +12,10 @@ mod types;
 mod valid;
 
 pub use event::Event;
-pub use reply::Count;
 pub use reply::Done;
 pub use reply::Reply;
 pub use reply::Stepped;
+pub use reply::StuckReply;
 pub use state::Condvars;
 pub use state::CvWait;
 pub use state::Detector;

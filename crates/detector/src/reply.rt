@@ -14,7 +14,7 @@ pub enum Reply {
 }
 
 // The number of stuck threads, or refusal 2 if the state is not valid.
-pub enum Count {
+pub enum StuckReply {
     Threads(usize),
     Refused(u8),
 }

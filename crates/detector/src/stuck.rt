@@ -11,7 +11,7 @@ ghost use Rattle.waits.specs.Owners.{blocking};
 ghost use Rattle.detector.specs.State.{tables, Valid};
 ghost use Rattle.detector.specs.Promises.{stuckOf};
 ghost use Rattle.detector.specs.Stuck.{maskOf, trueWaits, found, anyBack, stuckIn, stuckCount, edgeCount};
-use crate::reply::Count;
+use crate::reply::StuckReply;
 use crate::state::Detector;
 use graph::Way;
 use graph::find_path;
@@ -138,14 +138,14 @@ impl Detector {
     }
 
     // Returns how many threads are stuck, or refusal 2 if the state is not valid.
-    pub fn stuck(self) -> Count
+    pub fn stuck(self) -> StuckReply
         ensures { λ r. ⌜ r ≡ stuckOf self ⌝ }
     {
         if self.is_valid() {
             let n = self.stuck_within();
-            return Count::Threads(n);
+            return StuckReply::Threads(n);
         }
-        Count::Refused(2)
+        StuckReply::Refused(2)
     }
 
     // Returns how many edges are stored.

@@ -13,7 +13,7 @@ use borrow.Author.Tests.{ltb-true}
 use Rattle.sets.specs.Sets.{has, with, upward}
 use Rattle.sets.specs.Lists.{In}
 use Rattle.sets.proofs.Walk.{upward-lt}
-use Rattle.graph.specs.Search.{row, Trail, visit, expand, wayBack, search, begin, findPath}
+use Rattle.graph.specs.Search.{row, Trail, visit, expand, wayBack, search, begun, findPath}
 use Rattle.graph.specs.Graph.{Adding, adding, closing, addEdge, first, addNext, addOwners, one}
 use Rattle.graph.specs.Code.{soughtOf, foundIn}
 use Rattle.graph.specs.Promises.{Fit}
@@ -104,7 +104,7 @@ fits-search (suc f) rows a p s h =
 
 fits-find : (rows : List ℕ) (b a : ℕ) → b < 32 → Fits (findPath rows b a)
 unfolding findPath
-fits-find rows b a h = fits-search 32 rows a 0 (begin b) (small-cons b [] h small-nil)
+fits-find rows b a h = fits-search 32 rows a 0 (begun b) (small-cons b [] h small-nil)
 
 fits-closing : (g : WaitForGraph) (a b : ℕ) (o : Option (List ℕ)) → Fits o → Fits (closing g a b o .found)
 unfolding closing

@@ -18,7 +18,7 @@ use Rattle.sets.proofs.Walk.{upward-lt, upward-bit, bit-upward}
 use Rattle.sets.proofs.Lists.{pigeon}
 use Rattle.sets.proofs.Below.{last-or}
 use Rattle.graph.specs.Ways.{Walk, stop, step, Chain, Found}
-use Rattle.graph.specs.Search.{row, Trail, visit, expand, wayBack, search, begin, findPath}
+use Rattle.graph.specs.Search.{row, Trail, visit, expand, wayBack, search, begun, findPath}
 use Rattle.graph.specs.Graph.{Edge}
 use Rattle.graph.proofs.Trails.{search-met, search-on, search-end}
 use Rattle.graph.proofs.Ways.{leads-walk}
@@ -211,8 +211,8 @@ module _ (rows : List ℕ) (narrow : (i : ℕ) → row rows i < 2 ^ 32) (b a : �
       }
 
   -- The trail with b alone keeps to it.
-  begin-kept : b < 32 → Kept rows b a 0 (begin b)
-  begin-kept h =
+  begun-kept : b < 32 → Kept rows b a 0 (begun b)
+  begun-kept h =
       record {
         fits = with-lt 32 0 b (lit< tt) h;
         counted = sym (ones-single b);
@@ -356,14 +356,14 @@ module _ (rows : List ℕ) (narrow : (i : ℕ) → row rows i < 2 ^ 32) (b a : �
   -- A path that is found starts at b, ends at a, goes along edges, and has no thread twice.
   pub path-found : (p : List ℕ) → findPath rows b a ≡ some p → Found (Edge rows) b a p
   unfolding findPath
-  path-found p r = search-found rows narrow b a 32 0 (begin b) p (begin-kept rows narrow b a small) r
+  path-found p r = search-found rows narrow b a 32 0 (begun b) p (begun-kept rows narrow b a small) r
 
   -- If none is found, no walk leads from b to a.
   pub none-found : findPath rows b a ≡ none → Walk (Edge rows) b a → ⊥
   unfolding findPath
   none-found r w =
-      let k = begin-kept rows narrow b a small in
-      let t = search-closed rows narrow b a 32 0 (begin b) refl k r in
+      let k = begun-kept rows narrow b a small in
+      let t = search-closed rows narrow b a 32 0 (begun b) refl k r in
       never rows narrow b a (t .0) (t .2) w refl (t .1 .keeps b (bit-with-same 0 b))
 
   -- If a walk leads from b to a, a path is found.
@@ -383,9 +383,9 @@ module _ (rows : List ℕ) (narrow : (i : ℕ) → row rows i < 2 ^ 32) (b a : �
       go (some p) e = inl (leads-walk (Edge rows) b a p (path-found p e .leads))
 
   -- With 32 rows the search needs no more than 32 turns.
-  pub turns-enough : (k : ℕ) → search (32 + k) rows a 0 (begin b) ≡ findPath rows b a
+  pub turns-enough : (k : ℕ) → search (32 + k) rows a 0 (begun b) ≡ findPath rows b a
   unfolding findPath
-  turns-enough k = more-turns rows narrow b a k 32 0 (begin b) refl (begin-kept rows narrow b a small)
+  turns-enough k = more-turns rows narrow b a k 32 0 (begun b) refl (begun-kept rows narrow b a small)
 
 -- Every thread that an edge leads to is below 32.
 edge-small : (rows : List ℕ) → ((i : ℕ) → row rows i < 2 ^ 32) → (x y : ℕ) → Edge rows x y → y < 32
@@ -406,4 +406,4 @@ path-short rows narrow b a small p f = pigeon 32 p (f .distinct) (path-small row
 -- The path from a to a is a alone.
 pub self-found : (rows : List ℕ) (a : ℕ) → findPath rows a a ≡ some (a ∷ [])
 unfolding findPath wayBack
-self-found rows a = search-met 31 rows a 0 (begin a) (lit< tt) refl
+self-found rows a = search-met 31 rows a 0 (begun a) (lit< tt) refl

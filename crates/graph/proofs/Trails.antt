@@ -17,7 +17,7 @@ use Rattle.sets.proofs.Walk.{upward-zero}
 use Rattle.sets.proofs.Digits.{not-bit, with-lt, ones-with}
 use Rattle.sets.proofs.Below.{last-or}
 use Rattle.graph.specs.declared.search.Search.{Search}
-use Rattle.graph.specs.Search.{row, Trail, visit, expand, wayBack, begin, search, findPath}
+use Rattle.graph.specs.Search.{row, Trail, visit, expand, wayBack, begun, search, findPath}
 use Rattle.graph.specs.Promises.{Sound}
 use Rattle.graph.specs.Code.{trailOf}
 
@@ -159,5 +159,5 @@ module _ (rows : List ℕ) (a p : ℕ) (s : Search) (sound : Sound s) where
 pub start-idle : (rows : List ℕ) (b a : ℕ) → row rows b ≡ 0 → (b ≡ a → ⊥) → findPath rows b a ≡ none
 unfolding findPath expand
 start-idle rows b a e n =
-    search-on 31 rows a 0 (begin b) (lit< tt) n
-    ∙ rw (e, upward-zero 32 0) (search-end 31 rows a 1 (begin b) (lit≤ tt))
+    search-on 31 rows a 0 (begun b) (lit< tt) n
+    ∙ rw (e, upward-zero 32 0) (search-end 31 rows a 1 (begun b) (lit≤ tt))

@@ -47,9 +47,9 @@ search (suc f) rows a p s =
     cond (ltb p (length (s .threads))) (cond (eqb x a) (some (wayBack 31 s p [])) on) none
 
 -- Returns the trail that has found the thread b alone.
-abbrev pub begin : ℕ → Trail
-begin b = record { threads = b ∷ []; parents = 0 ∷ []; seen = with 0 b }
+abbrev pub begun : ℕ → Trail
+begun b = record { threads = b ∷ []; parents = 0 ∷ []; seen = with 0 b }
 
 -- Returns a path from b to a along the rows, or none. For 32 rows, 32 turns are enough (theorem `turns-enough`).
 unfoldable pub findPath : List ℕ → ℕ → ℕ → Option (List ℕ)
-findPath rows b a = search THREADS rows a 0 (begin b)
+findPath rows b a = search THREADS rows a 0 (begun b)

@@ -8,7 +8,7 @@ use sets::THREADS;
 use sets::threads;
 
 // Returns true if both are true or both are false.
-fn same(x: bool, y: bool) -> bool
+fn agree(x: bool, y: bool) -> bool
     ensures { λ r. ⌜ r ≡ agree x y ⌝ }
 {
     if x {
@@ -24,7 +24,7 @@ fn row_mirrors(row: u32, incoming: [u32; THREADS], a: usize) -> bool
 {
     let mut b = 0;
     while b < THREADS {
-        if same(threads::has(row, b), threads::has(incoming[b], a)) {
+        if agree(threads::has(row, b), threads::has(incoming[b], a)) {
             b += 1;
         } else {
             return false;

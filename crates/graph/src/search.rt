@@ -6,7 +6,7 @@ ghost use mathlib.Core.Option.{some};
 ghost use Prim.Native.Nat.{_<_, _≤_};
 ghost use lib.ListN.{drop};
 ghost use Rattle.sets.specs.Limits.{THREADS};
-ghost use Rattle.graph.specs.Search.{visit, expand, wayBack, begin, findPath};
+ghost use Rattle.graph.specs.Search.{visit, expand, wayBack, begun, findPath};
 ghost use Rattle.graph.specs.Promises.{Sound};
 ghost use Rattle.graph.specs.Code.{trailOf, pathOf, soughtOf};
 use crate::path::Path;
@@ -34,7 +34,7 @@ impl Search {
     // Returns a search that has found the start alone.
     fn begun(start: usize) -> Search
         requires { ⌜ start < THREADS ⌝ }
-        ensures { λ r. ⌜ (trailOf r ≡ begin start) × Sound r × (0 < r .count) ⌝ }
+        ensures { λ r. ⌜ (trailOf r ≡ begun start) × Sound r × (0 < r .count) ⌝ }
     {
         let mut threads = [0u8; THREADS];
         threads[0] = start as u8;

@@ -10,7 +10,7 @@ use Rattle.text.specs.Fields.{onFirst}
 use Rattle.listing.specs.Listing.{tablesText}
 use Rattle.text.specs.Bytes.{lineFeed}
 use Rattle.text.specs.Lines.{linesOf, carryBytes}
-use Rattle.transcript.specs.Replay.{Run, Result, limit, begun, after, lineText, resultText}
+use Rattle.transcript.specs.Replay.{Run, Result, limit, begin, after, lineText, resultText}
 use Rattle.transcript.specs.Chunks.{Mid, mid, start, step, fed, lastLine, together}
 use Rattle.transcript.proofs.Turning.{after-cut}
 use Rattle.transcript.proofs.Text.{fed-joined, cut-result, cut-more}
@@ -95,4 +95,4 @@ whole (b ∷ t) = λ p h r. whole-byte (ltb (r .lines) limit) (eqb b lineFeed) b
 
 pub shown-theorem : ShownTheorem
 unfolding shownText Whole lineEnds
-shown-theorem ts = rw (shows-joined start ts, fed-joined start ts) (whole (together ts) [] refl begun)
+shown-theorem ts = rw (shows-joined start ts, fed-joined start ts) (whole (together ts) [] refl begin)

@@ -8,7 +8,7 @@ use lib.Dec.{eqb, ltb}
 use Rattle.listing.specs.Listing.{tablesText}
 use Rattle.text.specs.Bytes.{lineFeed}
 use Rattle.text.specs.Lines.{linesOf}
-use Rattle.transcript.specs.Replay.{Run, limit, begun, after, lineText, lastText}
+use Rattle.transcript.specs.Replay.{Run, limit, begin, after, lineText, lastText}
 use Rattle.transcript.specs.Chunks.{Mid, start, step, fed, lastLine, fedAll, together}
 
 -- Returns the answer to the line l, which is the next one of the run r, and the tables after it.
@@ -22,7 +22,7 @@ shownOf r (l ∷ ls) = cond (ltb (r .lines) limit) (lineShown r l ++ shownOf (af
 
 -- Returns what is printed for the script t.
 unfoldable pub shownText : List ℕ → List ℕ
-shownText t = shownOf begun (linesOf t)
+shownText t = shownOf begin (linesOf t)
 
 -- ---- The same in chunks
 

@@ -26,7 +26,7 @@ ghost use Rattle.runner.specs.Code.{outBytes, endsWith};
 const TURNS: u64 = 18446744073709551615;
 
 // Holds the run between two reads, and whether all that had to be written could be.
-struct Held {
+struct Between {
     run: Run,
     open: bool,
 }
@@ -47,7 +47,7 @@ fn take_chunk(
     chunk: &[u8],
     out: &mut [u8],
     buf: &mut [u8],
-) -> Held
+) -> Between
     requires { ⌜ IsRun run (now carry) × (length (now out) ≡ outBytes) × (length (now buf) ≡ bufferBytes) ⌝ }
     ensures { λ r. ⌜ IsRun (r .run) (now (carry .exit)) × (r .open ≡ true → midOf (r .run) (now (carry .exit)) ≡ fed (midOf run (now (carry .entry))) (now (chunk .entry))) ⌝ }
 {
@@ -55,20 +55,20 @@ fn take_chunk(
     let mut i = 0;
     while i < chunk.len() {
         if r.lines == LIMIT {
-            return Held { run: r, open: true };
+            return Between { run: r, open: true };
         }
         let t = put_part(tables, r, carry, chunk, i, out, buf);
         let n = t.run;
         r = n;
         i = t.next;
         if !io::write_all(libc::STDOUT_FILENO, &out[..t.at]) {
-            return Held {
+            return Between {
                 run: r,
                 open: false,
             };
         }
     }
-    Held { run: r, open: true }
+    Between { run: r, open: true }
 }
 
 // Writes the totals, which are the same text with tables and without, and returns how the script ended. No line

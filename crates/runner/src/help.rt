@@ -68,14 +68,15 @@ fn print_help(program: &[u8], tables: bool) {
     print(program);
     print(b" [SCRIPT ..]\n\n");
     print(
-        b"Reads each script from the empty state, or standard input where no script is named. A script has one event\n",
+        b"Reads each script from the empty state, or standard input where no script is named. A script has an event on\n",
     );
     print(
-        b"a line, its fields parted by one tab: a word, then threads t (0 to 31), locks l (0 to 63) or condvars c (0 to\n",
+        b"each line: a word and its fields, with a tab between every two. The fields are threads t (0 to 31), locks l (0 to\n",
     );
     print(
-        b"15), then how an attempt came out, o: took, or - for blocked, or the thread that was seen to hold the lock.\n\n",
+        b"63) and condvars c (0 to 15); an attempt ends with how it came out, o: took, or - for blocked, or the thread that\n",
     );
+    print(b"was seen to own the lock.\n\n");
     print_words();
     print_answers(tables);
     print(b"\nFor example, two threads that each hold one mutex and want the other's:\n\n");

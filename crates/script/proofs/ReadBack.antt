@@ -12,7 +12,7 @@ use lib.ListN.{length, length-append}
 use Rattle.text.specs.Decimal.{decimalIn, decimal, tabbed, joined}
 use Rattle.text.proofs.Digits.{decimal-short}
 use Rattle.text.specs.Numbers.{digitsFrom, numberOf}
-use Rattle.text.specs.Bytes.{same}
+use Rattle.text.specs.Bytes.{equal}
 use Rattle.script.specs.Outcomes.{outcomeOf}
 use Rattle.script.specs.Words.{Word, spelled, shape}
 use Rattle.script.specs.Lines.{afterTwo, afterOne, afterWord, lineOf}
@@ -56,7 +56,7 @@ goodBelow zero = true
 goodBelow (suc k) = cond (good k) (goodBelow k) false
 
 computed : goodBelow 1000 ≡ true
-unfolding numberOf digitsFrom outcomeOf same decimal decimalIn
+unfolding numberOf digitsFrom outcomeOf equal decimal decimalIn
 computed = refl
 
 good-at : (k n : ℕ) → goodBelow k ≡ true → n < k → good n ≡ true
@@ -93,7 +93,7 @@ module _ (n : ℕ) (h : n < 1000) where
   number-short = decimal-short 2 n (omega arith)
 
 pub outcome-back : (o : Outcome) → AllBelow 1000 (hintsOf o) → outcomeOf (outcomeText o) ≡ outcome.Is o
-unfolding outcomeOf same
+unfolding outcomeOf equal
 outcome-back came.Took h = refl
 outcome-back came.Blocked h = refl
 outcome-back (came.Hinted n) h = hint-back n (h 0)

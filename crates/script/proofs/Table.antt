@@ -7,7 +7,7 @@ use native.Mathlib.Omega.{arith}
 use borrow.Author.Tests.{eq-eqb, ne-eqb, eqb-true, eqb-false, ltb-true}
 use lib.Dec.{eqb, ltb}
 use lib.ListN.{length, getD}
-use Rattle.text.specs.Bytes.{same}
+use Rattle.text.specs.Bytes.{equal}
 use Rattle.script.specs.Words.{Word, ma, mc, mr, md, ra, rc, rt, rr, wa, wc, wr, rd, cn, cd, cb, c1, ca, ce, words, spelled, Shape, noWord, shape, shapeIn, shapeOf}
 use Rattle.script.specs.Code.{keyOf, key, letters}
 use Rattle.text.proofs.Cut.{tabless}
@@ -28,7 +28,7 @@ abbrev known : {w : Word} → spelled w ≡ letters (key w) → ltb 0 (key w) �
 known a b c d e = record { letters-are = a; some = b; small = c; no-tab = d; found = e }
 
 pub spelling : (w : Word) → Spelled w
-unfolding shapeOf same
+unfolding shapeOf equal
 spelling ma = known refl refl refl refl refl
 spelling mc = known refl refl refl refl refl
 spelling mr = known refl refl refl refl refl
@@ -73,16 +73,16 @@ first-only true true = refl
 first-only true false = refl
 first-only false u = refl
 
-same-letters : (f : List ℕ) (k : ℕ) → ((i : ℕ) → getD f i 0 < 256) → 0 < k → k < 65536 → same f (letters k) ≡ eqb (keyOf f) k
-unfolding same
-same-letters [] k h p s = sym (ne-eqb 0 k (λ q. omega arith))
-same-letters (a ∷ []) k h p s = first (eqb a (k / 256 % 256)) ∙ sym (ne-eqb 0 k (λ q. omega arith))
+equal-letters : (f : List ℕ) (k : ℕ) → ((i : ℕ) → getD f i 0 < 256) → 0 < k → k < 65536 → equal f (letters k) ≡ eqb (keyOf f) k
+unfolding equal
+equal-letters [] k h p s = sym (ne-eqb 0 k (λ q. omega arith))
+equal-letters (a ∷ []) k h p s = first (eqb a (k / 256 % 256)) ∙ sym (ne-eqb 0 k (λ q. omega arith))
   where
     first : (t : Bool) → cond t false false ≡ false
     first true = refl
     first false = refl
-same-letters (a ∷ b ∷ []) k h p s = pair (eqb a (k / 256 % 256)) (eqb b (k % 256)) a b k (h 0) (h 1) s refl refl
-same-letters (a ∷ b ∷ c ∷ f) k h p s = first-only (eqb a (k / 256 % 256)) (eqb b (k % 256)) ∙ sym (ne-eqb 0 k (λ q. omega arith))
+equal-letters (a ∷ b ∷ []) k h p s = pair (eqb a (k / 256 % 256)) (eqb b (k % 256)) a b k (h 0) (h 1) s refl refl
+equal-letters (a ∷ b ∷ c ∷ f) k h p s = first-only (eqb a (k / 256 % 256)) (eqb b (k % 256)) ∙ sym (ne-eqb 0 k (λ q. omega arith))
 
 -- ---- The shape, found by the number
 
@@ -98,7 +98,7 @@ shapeFor k = shapeBy words k
 by-number : (ws : List Word) (f : List ℕ) → ((i : ℕ) → getD f i 0 < 256) → shapeIn ws f ≡ shapeBy ws (keyOf f)
 by-number [] f h = refl
 by-number (w ∷ ws) f h =
-    let e : same f (spelled w) ≡ eqb (keyOf f) (key w) = ap (λ (x : List ℕ). same f x) (spelling w .letters-are) ∙ same-letters f (key w) h (ltb-true 0 (key w) (spelling w .some)) (ltb-true (key w) 65536 (spelling w .small)) in
+    let e : equal f (spelled w) ≡ eqb (keyOf f) (key w) = ap (λ (x : List ℕ). equal f x) (spelling w .letters-are) ∙ equal-letters f (key w) h (ltb-true 0 (key w) (spelling w .some)) (ltb-true (key w) 65536 (spelling w .small)) in
     rw (e, by-number ws f h)
 
 pub shape-at : (f : List ℕ) (k : ℕ) → ((i : ℕ) → getD f i 0 < 256) → k ≡ keyOf f → shapeOf f ≡ shapeFor k

@@ -43,13 +43,13 @@ afterWord s [] = line.Unreadable
 afterWord s (f ∷ fs) = onNumber (numberOf f) (afterOne s fs)
 
 -- Returns what the fields of a line make, the first of which is its word.
-abbrev pub recordOf : List (List ℕ) → Line
-recordOf [] = line.Unreadable
-recordOf (w ∷ fs) = afterWord (shapeOf w) fs
+abbrev pub lineFrom : List (List ℕ) → Line
+lineFrom [] = line.Unreadable
+lineFrom (w ∷ fs) = afterWord (shapeOf w) fs
 
 -- Returns what the line l, given without its line feed, reads as.
 unfoldable pub lineOf : List ℕ → Line
-lineOf l = cond (leb (length l) 40) (recordOf (fields l)) line.Unreadable
+lineOf l = cond (leb (length l) 40) (lineFrom (fields l)) line.Unreadable
 
 -- Returns refusal 1 for a line that does not read, and 0, which is no refusal, for one that does.
 abbrev pub lineRefusal : Line → ℕ

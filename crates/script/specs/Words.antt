@@ -2,7 +2,7 @@
 use Prim.Native.Nat.{ℕ}
 use mathlib.Core.Bool.{cond}
 use mathlib.Core.List.{List, [], _∷_}
-use Rattle.text.specs.Bytes.{text, same}
+use Rattle.text.specs.Bytes.{text, equal}
 use Rattle.waits.specs.declared.outcome.Outcome.{Outcome}
 use Rattle.waits.specs.declared.outcome.Outcome.the-variants as outcome
 use Rattle.waits.specs.declared.outcome.Tried.{Tried}
@@ -49,8 +49,8 @@ pub record Shape : Type 0 where
   pub three : ℕ → ℕ → Outcome → Line
 
 -- Returns the shape of a word that takes a lock or a condvar and makes the event e of it.
-abbrev pub l : (ℕ → Event) → Shape
-l e = record { one = λ a. line.Event (e a); two = λ a b. line.Unreadable; three = λ a b o. line.Unreadable }
+abbrev pub single : (ℕ → Event) → Shape
+single e = record { one = λ a. line.Event (e a); two = λ a b. line.Unreadable; three = λ a b o. line.Unreadable }
 
 -- Returns the shape of a word that takes a thread and a lock.
 abbrev pub tl : (ℕ → ℕ → Event) → Shape
@@ -89,7 +89,7 @@ abbrev pub shape : Word → Shape
 shape ma = tlo event.MutexAttempt
 shape mc = tl event.MutexAcquired
 shape mr = tl event.MutexReleased
-shape md = l event.MutexExit
+shape md = single event.MutexExit
 shape ra = tlo event.RwReadAttempt
 shape rc = tl event.RwReadAcquired
 shape rt = tlx event.RwReadTry
@@ -97,18 +97,18 @@ shape rr = tl event.RwReadReleased
 shape wa = tlo event.RwWriteAttempt
 shape wc = tl event.RwWriteAcquired
 shape wr = tl event.RwWriteReleased
-shape rd = l event.RwExit
-shape cn = l event.CondvarSpawn
-shape cd = l event.CondvarExit
+shape rd = single event.RwExit
+shape cn = single event.CondvarSpawn
+shape cd = single event.CondvarExit
 shape cb = tcl event.CondvarWaitBegin
-shape c1 = l event.CondvarNotifyOne
-shape ca = l event.CondvarNotifyAll
+shape c1 = single event.CondvarNotifyOne
+shape ca = single event.CondvarNotifyAll
 shape ce = tcl event.CondvarWaitEnd
 
 -- Returns the shape of the word among ws that the field f spells, or noWord if it spells none.
 abbrev pub shapeIn : List Word → List ℕ → Shape
 shapeIn [] f = noWord
-shapeIn (w ∷ ws) f = cond (same f (spelled w)) (shape w) (shapeIn ws f)
+shapeIn (w ∷ ws) f = cond (equal f (spelled w)) (shape w) (shapeIn ws f)
 
 -- Returns the shape of the word that the field f spells, or noWord if it spells none.
 unfoldable pub shapeOf : List ℕ → Shape

@@ -1,4 +1,4 @@
-// This module reads how a try came out: `took`, `-` for blocked, or a hint, which is the number of the thread
+// This module reads how an attempt came out: `took`, `-` for blocked, or a hint, which is the number of the thread
 // that was seen to own the lock.
 use text::NumberRead;
 use text::equal;

@@ -33,7 +33,7 @@ fn as_outcome(o: Tried) -> Outcome
 }
 
 // Returns the word of an event and its fields. The lock of `cb` and `ce` is printed as a hint is.
-fn record_of(e: Event) -> Record
+fn parts_of(e: Event) -> Record
     ensures { λ r. ⌜ r ≡ keyed (partsOf e) ⌝ }
 {
     match e {
@@ -84,7 +84,7 @@ pub fn put_event(out: &mut [u8], at: usize, e: Event) -> usize
     requires { ⌜ Room (now out) at (eventText e) ⌝ }
     ensures { λ r. ⌜ Put (now (out .entry)) at (eventText e) (now (out .exit)) r ⌝ }
 {
-    let x = record_of(e);
+    let x = parts_of(e);
     match x {
         Record::One(k, a) => {
             let p = put_word(out, at, k);

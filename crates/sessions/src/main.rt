@@ -1,10 +1,10 @@
 // This program runs the sessions worked by hand, and events at the limits, through the public call `step`. For each
 // event it prints `ok` and the number of reports, or `no` and the refusal, and then the bytes of the first report.
 ghost use Prim.Native.Nat.{_<_};
-use detector::Count;
 use detector::Detector;
 use detector::Event;
 use detector::Reply;
+use detector::StuckReply;
 use waits::Outcome;
 use waits::Tried;
 use waits::Waits;
@@ -96,7 +96,7 @@ fn totals(d: Detector) {
     print(b"edges ");
     print_number(d.edges_stored());
     let c = d.stuck();
-    if let Count::Threads(n) = c {
+    if let StuckReply::Threads(n) = c {
         print(b" stuck ");
         print_number(n);
     }

@@ -10,7 +10,7 @@ use lib.Dec.{eqb, ltb}
 use lib.ListN.{length, drop, getD, drop-of-length-le}
 use lib.Seq.{drop-cons, drop-length}
 use Rattle.text.specs.Numbers.{digitsFrom, numberOf}
-use Rattle.text.specs.Bytes.{same}
+use Rattle.text.specs.Bytes.{equal}
 use Rattle.text.specs.declared.number.NumberRead.{NumberRead}
 use Rattle.text.specs.declared.number.NumberRead.the-variants as number
 
@@ -84,12 +84,12 @@ below-hundred (suc (suc (suc i))) v h g = absurd (omega arith)
 -- ---- Two texts from the place i on
 
 -- Texts of different length differ.
-pub same-short : (s t : List ℕ) → (length s ≡ length t → ⊥) → false ≡ same s t
-unfolding same
-same-short [] [] h = absurd (h refl)
-same-short [] (b ∷ t) h = refl
-same-short (a ∷ s) [] h = refl
-same-short (a ∷ s) (b ∷ t) h = either (eqb a b) _ (same-short s t (λ e. h (ap suc e)))
+pub equal-short : (s t : List ℕ) → (length s ≡ length t → ⊥) → false ≡ equal s t
+unfolding equal
+equal-short [] [] h = absurd (h refl)
+equal-short [] (b ∷ t) h = refl
+equal-short (a ∷ s) [] h = refl
+equal-short (a ∷ s) (b ∷ t) h = either (eqb a b) _ (equal-short s t (λ e. h (ap suc e)))
   where
     either : (t : Bool) (x : Bool) → false ≡ x → false ≡ cond t x false
     either true x e = e
@@ -97,15 +97,15 @@ same-short (a ∷ s) (b ∷ t) h = either (eqb a b) _ (same-short s t (λ e. h (
 
 module _ (s t : List ℕ) (i : ℕ) (h : i < length s) (g : i < length t) where
   -- They differ if their bytes at i do; if not, the places after i decide.
-  pub same-not : (getD s i 0 ≡ getD t i 0 → ⊥) → false ≡ same (drop i s) (drop i t)
-  unfolding same
-  same-not e = rw (drop-cons s i 0 h, drop-cons t i 0 g, ne-eqb _ _ e)
+  pub equal-not : (getD s i 0 ≡ getD t i 0 → ⊥) → false ≡ equal (drop i s) (drop i t)
+  unfolding equal
+  equal-not e = rw (drop-cons s i 0 h, drop-cons t i 0 g, ne-eqb _ _ e)
 
-  pub same-on : getD s i 0 ≡ getD t i 0 → same (drop i s) (drop i t) ≡ same (drop (i + 1) s) (drop (i + 1) t)
-  unfolding same
-  same-on e = rw (drop-cons s i 0 h, drop-cons t i 0 g, eq-eqb _ _ e, add-one)
+  pub equal-on : getD s i 0 ≡ getD t i 0 → equal (drop i s) (drop i t) ≡ equal (drop (i + 1) s) (drop (i + 1) t)
+  unfolding equal
+  equal-on e = rw (drop-cons s i 0 h, drop-cons t i 0 g, eq-eqb _ _ e, add-one)
 
 -- At the end they are the same.
-pub same-end : (s t : List ℕ) (i : ℕ) → length s ≤ i → length s ≡ length t → true ≡ same (drop i s) (drop i t)
-unfolding same
-same-end s t i h g = let k : length t ≤ i = omega arith in rw (drop-of-length-le s h, drop-of-length-le t k)
+pub equal-end : (s t : List ℕ) (i : ℕ) → length s ≤ i → length s ≡ length t → true ≡ equal (drop i s) (drop i t)
+unfolding equal
+equal-end s t i h g = let k : length t ≤ i = omega arith in rw (drop-of-length-le s h, drop-of-length-le t k)

@@ -20,8 +20,8 @@ abbrev pub lineFeed : ℕ
 lineFeed = code "\n"
 
 -- Returns true if the two texts have the same length and the same bytes.
-unfoldable pub same : List ℕ → List ℕ → Bool
-same [] [] = true
-same [] (b ∷ t) = false
-same (a ∷ s) [] = false
-same (a ∷ s) (b ∷ t) = cond (eqb a b) (same s t) false
+unfoldable pub equal : List ℕ → List ℕ → Bool
+equal [] [] = true
+equal [] (b ∷ t) = false
+equal (a ∷ s) [] = false
+equal (a ∷ s) (b ∷ t) = cond (eqb a b) (equal s t) false

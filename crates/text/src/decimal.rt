@@ -15,7 +15,7 @@ fn glyph(d: usize) -> u8
 }
 
 // Returns how many digits n has.
-fn places(n: usize) -> usize
+fn digit_count(n: usize) -> usize
     ensures { λ r. ⌜ r ≡ length (decimal n) ⌝ }
 {
     let mut k = 1;
@@ -47,7 +47,7 @@ pub fn put_number(out: &mut [u8], at: usize, n: usize) -> usize
     requires { ⌜ Room (now out) at (decimal n) ⌝ }
     ensures { λ r. ⌜ Put (now (out .entry)) at (decimal n) (now (out .exit)) r ⌝ }
 {
-    let k = places(n);
+    let k = digit_count(n);
     put_digits(out, at, n, k);
     at + k
 }

@@ -14,7 +14,7 @@ use Rattle.text.proofs.Puts.{puts-coincide, put-whole}
 use Rattle.transcript.specs.Chunks.{Mid, start, mid, fed, prints, ends, fedAll, printsAll, together}
 use Rattle.text.specs.Lines.{linesOf}
 use Rattle.transcript.specs.Replay as replay
-use Rattle.transcript.specs.Replay.{limit, begun, after, lineText, lastText, textOf, replayText}
+use Rattle.transcript.specs.Replay.{limit, begin, after, lineText, lastText, textOf, replayText}
 use Rattle.transcript.specs.Promises.{Begins}
 use Rattle.transcript.specs.Code.{midOf, between}
 use Rattle.transcript.specs.Calls.{Calls, none, next, FeedsCoincide, FeedsMove, AllPrinted, answersOf, lastOf, TextsAnswered}
@@ -115,7 +115,7 @@ unfolding replayText
 texts-answered t =
     let ls = linesOf t in
     record {
-      text = text-answers ls begun;
-      total = omega (arith, lines-answers ls begun);
-      counted = ⊎-elim (λ z. inl (z .0, omega (arith, z .0, z .1))) (λ z. inr (omega (arith, z .0), omega (arith, z .1))) (counted-answers ls begun (lit≤ tt));
+      text = text-answers ls begin;
+      total = omega (arith, lines-answers ls begin);
+      counted = ⊎-elim (λ z. inl (z .0, omega (arith, z .0, z .1))) (λ z. inr (omega (arith, z .0), omega (arith, z .1))) (counted-answers ls begin (lit≤ tt));
     }

@@ -13,7 +13,7 @@ use Rattle.script.proofs.Steps.{line-cut}
 use Rattle.detector.specs.Tables.{Tables}
 use Rattle.text.specs.Bytes.{lineFeed}
 use Rattle.text.specs.Lines.{linesOf, carryBytes}
-use Rattle.transcript.specs.Replay.{Run, limit, begun, lineResult, resultOf, after, lineText, lastText, textOf, replayText}
+use Rattle.transcript.specs.Replay.{Run, limit, begin, lineResult, resultOf, after, lineText, lastText, textOf, replayText}
 use Rattle.transcript.specs.Chunks.{Mid, mid, start, step, printsByte, fed, prints, lastLine, ends, fedAll, printsAll, together, TextTheorem}
 
 -- ---- Feeding a and then b is feeding a ++ b
@@ -111,7 +111,7 @@ whole (b ∷ t) = λ p r. whole-byte (ltb (r .lines) limit) (eqb b lineFeed) b t
 
 pub replays : (t : List ℕ) → prints start t ++ ends (fed start t) ≡ replayText t
 unfolding replayText Whole
-replays t = whole t [] begun
+replays t = whole t [] begin
 
 pub text-theorem : TextTheorem
 text-theorem ts = rw (prints-joined start ts, fed-joined start ts) (replays (together ts))

@@ -16,7 +16,7 @@ use Rattle.detector.specs.declared.state.Detector.{Detector}
 use Rattle.detector.specs.declared.reply.Stepped.{Stepped}
 use Rattle.text.specs.Promises.{Room, Put}
 use Rattle.answers.specs.Answers.{replyText, cyclesText, answerText, answerBytes}
-use Rattle.answers.specs.Promises.{Held}
+use Rattle.answers.specs.Promises.{ReportsInside}
 use Rattle.answers.proofs.Bounds.{Bytes, answer-room, answer-bound}
 use Rattle.waits.specs.Report.{Entry}
 use Rattle.detector.specs.State.{tables, Valid}
@@ -161,7 +161,7 @@ effect-result n y b a h = ap₂ (λ (q : Reply) (c : List (List Entry)). replyTe
 
 -- There is room for the answer, and what is put is the text of the result.
 module _ (n : ℕ) (a : Stepped) (b : List ℕ) (q : Result) (small : n < 2 ^ 64) (bytes : Bytes b) (s : Results a b q) (out : List ℕ) (at : ℕ) where
-  pub answered-room : length b ≡ bufferBytes → at + answerBytes ≤ length out → Held (reportsOf (a .reply)) b × Room out at (answerText n (a .reply) b)
+  pub answered-room : length b ≡ bufferBytes → at + answerBytes ≤ length out → ReportsInside (reportsOf (a .reply)) b × Room out at (answerText n (a .reply) b)
   answered-room h w = (omega (arith, s .held), answer-room out at n (a .reply) b small (omega (arith, s .small)) bytes (s .few) (s .held) w)
 
   pub answered-line : (out′ : List ℕ) (to : ℕ) → Put out at (answerText n (a .reply) b) out′ to

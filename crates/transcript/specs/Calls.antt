@@ -12,7 +12,7 @@ use Rattle.text.specs.Promises.{Put}
 use Rattle.answers.specs.Answers.{answerBytes}
 use Rattle.text.specs.Lines.{linesOf}
 use Rattle.transcript.specs.Replay as replay
-use Rattle.transcript.specs.Replay.{limit, begun, after, lineText, lastText, replayText}
+use Rattle.transcript.specs.Replay.{limit, begin, after, lineText, lastText, replayText}
 use Rattle.transcript.specs.Chunks.{ends, together}
 use Rattle.transcript.specs.Promises.{Begins, Feeds}
 use Rattle.transcript.specs.Code.{midOf, between}
@@ -84,9 +84,9 @@ AllOrLimit n lines = ((n ≡ lines) × (n ≤ limit)) ⊎ ((n ≡ limit) × (lim
 -- States that what is printed for the text t is its answers and then the `end` line, whose first number is that
 -- of the answers.
 pub record TextAnswered (t : List ℕ) : Type 0 where
-  pub text : replayText t ≡ together (answersOf begun (linesOf t)) ++ lastText (lastOf begun (linesOf t))
-  pub total : lastOf begun (linesOf t) .lines ≡ length (answersOf begun (linesOf t))
-  pub counted : AllOrLimit (length (answersOf begun (linesOf t))) (length (linesOf t))
+  pub text : replayText t ≡ together (answersOf begin (linesOf t)) ++ lastText (lastOf begin (linesOf t))
+  pub total : lastOf begin (linesOf t) .lines ≡ length (answersOf begin (linesOf t))
+  pub counted : AllOrLimit (length (answersOf begin (linesOf t))) (length (linesOf t))
 
 -- States that this holds of every text (`texts-answered`).
 abbrev pub TextsAnswered : Type 0

@@ -8,7 +8,7 @@ use lib.Dec.{eqb, ltb}
 use lib.ListN.{take}
 use Rattle.text.specs.Bytes.{lineFeed}
 use Rattle.text.specs.Lines.{carryBytes}
-use Rattle.transcript.specs.Replay.{Run, limit, begun, after, lineText, textOf, replayText}
+use Rattle.transcript.specs.Replay.{Run, limit, begin, after, lineText, textOf, replayText}
 
 -- Holds where a text stands between two of its bytes: the carry, and the run after the lines before it.
 pub record Mid : Type 0 where
@@ -21,7 +21,7 @@ mid p r = record { part = p; run = r }
 
 -- This is where a text stands before its first byte.
 abbrev pub start : Mid
-start = mid [] begun
+start = mid [] begin
 
 -- Returns where the text stands after the byte b. A line feed ends the line, any other byte is carried as far
 -- as there is room, and at the limit of lines nothing changes.

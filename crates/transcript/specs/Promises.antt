@@ -9,7 +9,7 @@ use Rattle.detector.specs.State.{Valid}
 use Rattle.text.specs.Lines.{carryBytes}
 use Rattle.text.specs.Promises.{Put}
 use Rattle.answers.specs.Answers.{answerBytes, endBytes}
-use Rattle.transcript.specs.Replay.{limit, begun}
+use Rattle.transcript.specs.Replay.{limit, begin}
 use Rattle.transcript.specs.Chunks.{fed, prints}
 use Rattle.transcript.specs.Code.{runOf, midOf, between}
 use Rattle.transcript.specs.declared.run.Run.{Run}
@@ -18,7 +18,7 @@ use Rattle.transcript.specs.declared.run.Turned.{Turned}
 -- States that the run r stands before the first byte of a text.
 pub record Begins (r : Run) : Type 0 where
   pub valid : Valid (r .detector)
-  pub run : runOf r ≡ begun
+  pub run : runOf r ≡ begin
   pub have : r .have ≡ 0
 
 -- States that the run r with its carry can stand between two bytes of a text: the state is valid, at most
@@ -50,8 +50,9 @@ pub record Moves (r : Run) (carry chunk : List ℕ) (from to : ℕ) (r′ : Run)
   pub inside : to ≤ length chunk
   pub after : midOf r′ carry′ ≡ fed (midOf r carry) (between from to chunk)
 
--- States what `feed_within` promises: it goes on to the chunk's end, the limit of lines, or the place where the
--- longest answer has no room, and no line prints more than the longest answer.
+-- States what `feed_within` promises: the run after it and every byte put are those of the part of the chunk that it
+-- took. It goes on to the chunk's end, the limit of lines, or the place where the longest answer has no room, and no
+-- line prints more than the longest answer.
 pub record Feeds (r : Run) (carry chunk : List ℕ) (from : ℕ) (out : List ℕ) (at : ℕ) (t : Turned) (carry′ out′ : List ℕ) : Type 0 where
   pub moves : Moves r carry chunk from (t .next) (t .run) carry′
   pub text : Put out at (prints (midOf r carry) (between from (t .next) chunk)) out′ (t .at)

@@ -51,8 +51,8 @@ pub record Run : Type 0 where
   pub tables : Tables
 
 -- This is the run before the first line, with the empty tables.
-abbrev pub begun : Run
-begun = record { lines = 0; tables = empty }
+abbrev pub begin : Run
+begin = record { lines = 0; tables = empty }
 
 -- Returns the run after the line l.
 unfoldable pub after : Run → List ℕ → Run
@@ -77,4 +77,4 @@ textOf r (l ∷ ls) = cond (ltb (r .lines) limit) (lineText r l ++ textOf (after
 
 -- Returns what is printed for the script t.
 unfoldable pub replayText : List ℕ → List ℕ
-replayText t = textOf begun (linesOf t)
+replayText t = textOf begin (linesOf t)

@@ -45,7 +45,8 @@ fn with_awaited(m: u64, s: Slot) -> u64
     locks::with(m, l)
 }
 
-// A table that is read at one place is copied to a local first, so that the compiler copies it and not all of them.
+// Where it saves time, a table that is read at one place is copied to a local first: then the compiler copies that table
+// and not all of them.
 impl Waits {
     // Removes t's intent and takes t out of the waiters of the lock it named. Does nothing if t has no intent.
     fn forget_intent(mut self, t: usize) -> Waits

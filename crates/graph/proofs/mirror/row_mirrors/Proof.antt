@@ -31,8 +31,8 @@ array-read-has c = omega arith
 has-requires-2 : tie.Need-has-requires-2 Inv-loop μ-loop
 has-requires-2 c κs = omega arith
 
-same-requires : tie.Need-same-requires Inv-loop μ-loop
-same-requires c κs = omega arith
+agree-requires : tie.Need-agree-requires Inv-loop μ-loop
+agree-requires c κs = omega arith
 
 add-b : tie.Need-add-b Inv-loop μ-loop
 add-b c = omega arith
@@ -46,13 +46,13 @@ loop-again c =
       omega arith,
       rw add-one
           (every-more _ _ (l .1)
-          (rw (← c .before .before .before .has .ensures, ← c .before .before .has2 .ensures) (sym (c .before .same .ensures) ∙ c .if1 .taken))),
+          (rw (← c .before .before .before .has .ensures, ← c .before .before .has2 .ensures) (sym (c .before .agree .ensures) ∙ c .if1 .taken))),
     )
 
 returns : tie.Need-returns Inv-loop μ-loop
 returns c =
     sym (every-not _ 32 (c .before .before .before .before .before .loop .b) (omega arith)
-    (rw (← c .before .before .before .has .ensures, ← c .before .before .has2 .ensures) (sym (c .before .same .ensures) ∙ c .if1 .left)))
+    (rw (← c .before .before .before .has .ensures, ← c .before .before .has2 .ensures) (sym (c .before .agree .ensures) ∙ c .if1 .left)))
 
 returns-2 : tie.Need-returns-2 Inv-loop μ-loop
 returns-2 c =
@@ -70,7 +70,7 @@ row-mirrors-spec =
     mul-has
     array-read-has
     has-requires-2
-    same-requires
+    agree-requires
     add-b
     loop-less
     loop-again

@@ -5,8 +5,8 @@ use native.Mathlib.Omega.{arith}
 use lib.ListN.{length}
 use Rattle.text.specs.Decimal.{decimal}
 use Rattle.text.proofs.Digits.{decimal-one, decimal-length, decimal-short}
-use Rattle.text.proofs.decimal.places.Statement.{statement}
-use Rattle.text.proofs.decimal.places.Tie as tie
+use Rattle.text.proofs.decimal.digit_count.Statement.{statement}
+use Rattle.text.proofs.decimal.digit_count.Tie as tie
 
 -- The digits counted and the digits of rest are one more than the digits of n.
 abbrev Inv-loop : tie.InvT-loop
@@ -30,5 +30,5 @@ loop-again c = omega (arith, decimal-length (c .before .loop .rest) (c .loop-tes
 returns : tie.Need-returns Inv-loop μ-loop
 returns c = omega (arith, ap length (decimal-one (c .before .loop .rest) (c .loop-test .left)))
 
-pub places-spec : {M : Type 1} → statement M
-places-spec = tie.close (tie.spec Inv-loop μ-loop loop-holds add-k loop-less loop-again returns)
+pub digit-count-spec : {M : Type 1} → statement M
+digit-count-spec = tie.close (tie.spec Inv-loop μ-loop loop-holds add-k loop-less loop-again returns)

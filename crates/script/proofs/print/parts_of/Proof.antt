@@ -1,6 +1,6 @@
 use borrow.Author.Needs.{needs}
-use Rattle.script.proofs.print.record_of.Statement.{statement}
-use Rattle.script.proofs.print.record_of.Tie as tie
+use Rattle.script.proofs.print.parts_of.Statement.{statement}
+use Rattle.script.proofs.print.parts_of.Tie as tie
 
 enum-known-e : tie.Need-enum-known-e
 enum-known-e c = search needs
@@ -113,8 +113,8 @@ returns-17 c = rw (c .before .e17 .given .1)
 returns-18 : tie.Need-returns-18
 returns-18 c = rw (c .before .e18 .given .1)
 
-pub record-of-spec : {M : Type 1} → statement M
-record-of-spec =
+pub parts-of-spec : {M : Type 1} → statement M
+parts-of-spec =
     tie.close
     (tie.spec
     enum-known-e
