@@ -41,7 +41,7 @@ fn put_reply(out: &mut [u8], at: usize, line: usize, reply: Reply) -> usize
 // Puts the reply line and a `cycle` line for each report in the report buffer, and returns the place after
 // them. A refusal has no `cycle` lines.
 pub fn put_answer(out: &mut [u8], at: usize, line: usize, reply: Reply, buf: &[u8]) -> usize
-    requires reports_inside { ReportsInside (reports_of reply) buf.now }
+    requires inside { ReportsInside (reports_of reply) buf.now }
     requires room { Room out.old at (answer_text line reply buf.now) }
     ensures { Put out.old at (answer_text line reply buf.now) out.new result }
 {

@@ -13,7 +13,7 @@ use waits::Waits;
 // Puts a tab and the item `thread:lock` of the entry that starts at `from` in the report buffer, and returns
 // the place after the item.
 fn put_item(out: &mut [u8], at: usize, buf: &[u8], from: usize) -> usize
-    requires entry_bytes_in_bounds { from + entry_bytes ≤ length buf.now }
+    requires inside { from + entry_bytes ≤ length buf.now }
     requires room { Room out.old at (with_tab (item_text (entry_in (drop from buf.now)))) }
     ensures { Put out.old at (with_tab (item_text (entry_in (drop from buf.now)))) out.new result }
 {
@@ -24,7 +24,7 @@ fn put_item(out: &mut [u8], at: usize, buf: &[u8], from: usize) -> usize
 
 // Puts the items of n entries, the first of which starts at `from`, and returns the place after them.
 fn put_items(out: &mut [u8], at: usize, buf: &[u8], from: usize, n: usize) -> usize
-    requires n_in_bounds { from + entry_bytes * n ≤ length buf.now }
+    requires inside { from + entry_bytes * n ≤ length buf.now }
     requires room { Room out.old at (items_text (entries_in n (drop from buf.now))) }
     ensures { Put out.old at (items_text (entries_in n (drop from buf.now))) out.new result }
 {
@@ -41,7 +41,7 @@ fn put_items(out: &mut [u8], at: usize, buf: &[u8], from: usize, n: usize) -> us
 
 // Puts the `cycle` line of the report of n entries that starts at `from`, and returns the place after it.
 fn put_cycle(out: &mut [u8], at: usize, buf: &[u8], from: usize, n: usize) -> usize
-    requires n_value { (n ≡ get_or buf.now from 0) × (from + 1 + entry_bytes * n ≤ length buf.now) }
+    requires inside { (n ≡ get_or buf.now from 0) × (from + 1 + entry_bytes * n ≤ length buf.now) }
     requires room { Room out.old at (cycle_text (report_in (drop from buf.now))) }
     ensures { Put out.old at (cycle_text (report_in (drop from buf.now))) out.new result }
 {
@@ -53,7 +53,7 @@ fn put_cycle(out: &mut [u8], at: usize, buf: &[u8], from: usize, n: usize) -> us
 // Puts a `cycle` line for each of the reports and returns the place after them. The first report starts at the
 // buffer's first byte.
 pub(crate) fn put_cycles(out: &mut [u8], at: usize, buf: &[u8], reports: usize) -> usize
-    requires reports_inside { ReportsInside reports buf.now }
+    requires inside { ReportsInside reports buf.now }
     requires room { Room out.old at (cycles_text (reports_in reports buf.now)) }
     ensures { Put out.old at (cycles_text (reports_in reports buf.now)) out.new result }
 {

@@ -1,4 +1,6 @@
 // This crate puts the lines that replay prints, byte by byte, into a buffer that the caller lends.
+#![tactic(auto)]
+
 mod answer;
 mod cycle;
 

@@ -183,6 +183,7 @@ around_of c w f a (b ∷ r) i = rw i.0 (around_of c w f b r i.1)
 
 valid_of : (c : List ℕ) (w : Waits) (p : List ℕ) → Ring (True c w) p → valid c w p ≡ true
 unfolding valid
+valid_of c w [] i = elim i [ ]
 valid_of c w (a ∷ r) i = around_of c w a a r i
 
 validate_of : (c : List ℕ) (w : Waits) (p : List ℕ) → Ring (True c w) p → validate c w p ≡ reporting w p
@@ -205,6 +206,7 @@ decides_none c w h = (λ r. absurd (omega arith), λ z. absurd (no_cycle (True c
 
 held_all : (w : Waits) (l : ℕ) (p : List ℕ) → all_hold w p l ≡ true → (t : ℕ) → In t p → has (holds_of w t) l ≡ true
 unfolding all_hold
+held_all w l [] e t x'' = elim x'' [ ]
 held_all w l (s ∷ p) e t (inl q) = ap (λ (z : ℕ). has (holds_of w z) l) q ∙ (both (has (holds_of w s) l) (all_hold w p l) e).0
 held_all w l (s ∷ p) e t (inr m) = held_all w l p (both (has (holds_of w s) l) (all_hold w p l) e).1 t m
 

@@ -186,6 +186,7 @@ module _ (rows : List ℕ) (t : ℕ) where
 
   found_back : (us : List ℕ) (u : ℕ) → In u us → found (find_path rows u t) ≡ true → any_back rows t us ≡ true
   unfolding any_back
+  found_back [] u x'' p = elim x'' [ ]
   found_back (v ∷ us) u (inl e) p = rw (ap (λ (x : ℕ). found (find_path rows x t)) (sym e) ∙ p)
   found_back (v ∷ us) u (inr m) p = go (found (find_path rows v t)) (found_back us u m p)
     where

@@ -3,7 +3,7 @@ use waits::{Outcome, Tried};
 
 // There is a case for each word, in this order: ma mc mr md, ra rc rt rr, wa wc wr rd, cn cd cb c1 ca ce. A case has
 // the fields of its word in the order of a script's line. The last field of an attempt is its outcome.
-#[derive(Drop)]
+#[derive(Clone, Copy)]
 pub enum Event {
     MutexAttempt(usize, usize, Outcome),
     MutexAcquired(usize, usize),

@@ -1,4 +1,6 @@
 // The detector: its state, the 18 events, the refusals, and the step, which takes any state and any event.
+#![tactic(auto)]
+
 mod condvar;
 mod event;
 mod mutex;

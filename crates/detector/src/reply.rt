@@ -9,7 +9,7 @@ pub struct Done {
 }
 
 // The reply to a step: the number of reports, or the number of the refusal.
-#[derive(Drop)]
+#[derive(Clone, Copy)]
 pub enum Reply {
     Reports(usize),
     Refused(u8),

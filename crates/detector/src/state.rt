@@ -9,21 +9,21 @@ use sets::{LOCKS, THREADS};
 use waits::{Judged, Waits};
 
 // A thread in a condvar's queue, and the lock with which it waits.
-#[derive(Drop)]
+#[derive(Clone, Copy)]
 pub struct Pair {
     pub thread: u8,
     pub lock: u8,
 }
 
 // Holds the pairs of a condvar's queue in order. The places after the queue's end hold 0.
-#[derive(Drop)]
+#[derive(Clone, Copy)]
 pub struct Queue {
     pub pairs: [Pair; Queue::PLACES],
     pub len: u8,
 }
 
 // The cv wait of a thread: the condvar it waits for, and the lock. Without one the condvar is none, and the lock is 0.
-#[derive(Drop)]
+#[derive(Clone, Copy)]
 pub struct CvWait {
     pub condvar: u8,
     pub lock: u8,
@@ -31,7 +31,7 @@ pub struct CvWait {
 
 // The condvars: each one's queue, and each thread's cv wait. All numbers are bytes, because with a wider one among them
 // the compiler would copy these tables with every event.
-#[derive(Drop)]
+#[derive(Clone, Copy)]
 pub struct Condvars {
     pub cv_waiters: [Queue; Detector::CONDVARS],
     pub thread_wait_cv: [CvWait; THREADS],
@@ -40,7 +40,7 @@ pub struct Condvars {
 // The state: the waits, the woken threads, the reader counts, whose places `waits::place` gives, and the condvars. With
 // `cv_woken` between the waits and the counts, and the counts next to the condvars, the compiler can leave alone what
 // an event does not touch.
-#[derive(Drop)]
+#[derive(Clone, Copy)]
 pub struct Detector {
     pub waits: Waits,
     pub cv_woken: u32,

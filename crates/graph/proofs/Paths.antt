@@ -392,11 +392,13 @@ edge_small : (rows : List ℕ) → ((i : ℕ) → row rows i < 2 ^ 32) → (x y 
 edge_small rows narrow x y e = bit_below 32 (row rows x) y (narrow x) e
 
 chain_small : (rows : List ℕ) → ((i : ℕ) → row rows i < 2 ^ 32) → (x : ℕ) (r : List ℕ) (z : ℕ) → Chain (Edge rows) x r z → (y : ℕ) → In y r → y < 32
+chain_small rows narrow x [] z k y x4 = elim x4 [ ]
 chain_small rows narrow x (c ∷ r) z k y (inl e) = rw e (edge_small rows narrow x c k.0)
 chain_small rows narrow x (c ∷ r) z k y (inr m) = chain_small rows narrow c r z k.1 y m
 
 -- A path has at most 32 threads, each below 32.
 pub path_small : (rows : List ℕ) → ((i : ℕ) → row rows i < 2 ^ 32) → (b a : ℕ) → b < 32 → (p : List ℕ) → Found (Edge rows) b a p → (y : ℕ) → In y p → y < 32
+path_small rows narrow b a small [] f y x'' = elim x'' [ ]
 path_small rows narrow b a small (x ∷ r) f y (inl e) = rw (e, f.leads.0) small
 path_small rows narrow b a small (x ∷ r) f y (inr m) = chain_small rows narrow x r a f.leads.1 y m
 

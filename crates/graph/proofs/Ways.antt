@@ -59,6 +59,7 @@ chain_walk E a [] b e = stop e
 chain_walk E a (c ∷ r) b k = step k.0 (chain_walk E c r b k.1)
 
 pub leads_walk : (E : Rel) (a b : ℕ) (p : List ℕ) → Leads E a b p → Walk E a b
+leads_walk E a b [] k = elim k [ ]
 leads_walk E a b (x ∷ r) k = subst (λ (y : ℕ). Walk E y b) k.0 (chain_walk E x r b k.1)
 
 pub chain_map : (E F : Rel) → Within E F → (a : ℕ) (r : List ℕ) (b : ℕ) → Chain E a r b → Chain F a r b
@@ -66,6 +67,7 @@ chain_map E F h a [] b e = e
 chain_map E F h a (c ∷ r) b k = (h a c k.0, chain_map E F h c r b k.1)
 
 pub leads_map : (E F : Rel) → Within E F → (a b : ℕ) (p : List ℕ) → Leads E a b p → Leads F a b p
+leads_map E F h a b [] k = elim k [ ]
 leads_map E F h a b (x ∷ r) k = (k.0, chain_map E F h x r b k.1)
 
 -- ---- Rings
@@ -76,6 +78,7 @@ round_map E F h first a [] e = h a first e
 round_map E F h first a (b ∷ r) k = (h a b k.0, round_map E F h first b r k.1)
 
 pub ring_map : (E F : Rel) → Within E F → (l : List ℕ) → Ring E l → Ring F l
+ring_map E F h [] k = elim k [ ]
 ring_map E F h (a ∷ r) k = round_map E F h a a r k
 
 round_walk : (E : Rel) (first a : ℕ) (r : List ℕ) → Round E first a r → (c : ℕ) × E a c × Walk E c first
@@ -84,6 +87,7 @@ round_walk E first a (b ∷ r) k = let w = round_walk E first b r k.1 in (b, k.0
 
 -- A ring is a cycle.
 pub ring_cycle : (E : Rel) (l : List ℕ) → Ring E l → Cycle E
+ring_cycle E [] k = elim k [ ]
 ring_cycle E (a ∷ r) k = let w = round_walk E a a r k in record { from = a; to = w.0; edge = w.1; back = w.2 }
 
 -- A path from a to b and an edge from b to a make a ring.
@@ -92,4 +96,5 @@ chain_round E first a [] b e h = subst (λ (x : ℕ). E x first) (sym e) h
 chain_round E first a (c ∷ r) b k h = (k.0, chain_round E first c r b k.1 h)
 
 pub leads_ring : (E : Rel) (a b : ℕ) (p : List ℕ) → Leads E a b p → E b a → Ring E p
+leads_ring E a b [] k h = elim k [ ]
 leads_ring E a b (x ∷ r) k h = chain_round E x x r b k.1 (subst (λ (y : ℕ). E b y) (sym k.0) h)

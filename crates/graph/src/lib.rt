@@ -1,4 +1,6 @@
 // The wait-for graph: who waits for whom, the search for a path, and the test whether two tables mirror each other.
+#![tactic(auto)]
+
 mod mirror;
 mod path;
 mod search;

@@ -6,21 +6,21 @@ ghost use Rattle.graph.specs.Code.{sought_of, sooner};
 use sets::THREADS;
 
 // Holds the threads of a path in order. The places after them hold 0.
-#[derive(Drop)]
+#[derive(Clone, Copy)]
 pub struct Path {
     pub threads: [u8; THREADS],
     pub len: usize,
 }
 
 // Says whether there is a path.
-#[derive(Drop)]
+#[derive(Clone, Copy)]
 pub enum Way {
     Found,
     Missing,
 }
 
 // The result of a search: whether there is a path, and the path itself, which is empty if there is none.
-#[derive(Drop)]
+#[derive(Clone, Copy)]
 pub struct Sought {
     pub way: Way,
     pub path: Path,

@@ -11,7 +11,7 @@ use sets::{THREADS, threads};
 
 // An edge from a to b means that a waits for b. It stands in both tables: b is in row a of `edges`, and a is in row b
 // of `incoming_edges`.
-#[derive(Drop)]
+#[derive(Clone, Copy)]
 pub struct WaitForGraph {
     pub edges: [u32; THREADS],
     pub incoming_edges: [u32; THREADS],

@@ -1,5 +1,7 @@
 // The calls for anybody: each tests what the inner call of crate `transcript` asks. A call with what cannot be
 // a run, a place or a buffer is refused, and then everything stays as it was.
+#![tactic(auto)]
+
 ghost use Rattle.std.specs.Prelude.{◌≡◌, true};
 ghost use Rattle.transcript.specs.Promises.{IsRun, FeedAsks, EndAsks};
 ghost use Rattle.guarded.specs.Promises.{run_test, feed_test, end_test, FeedsAny, EndsAny};

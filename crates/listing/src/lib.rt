@@ -1,4 +1,6 @@
 // This crate puts the tables of a state, as the program `tables` prints them, into a buffer that the caller lends.
+#![tactic(auto)]
+
 mod cell;
 mod item;
 mod members;

@@ -1,4 +1,6 @@
 // This crate reads a line of a script as an event, and prints an event as a line.
+#![tactic(auto)]
+
 mod line;
 mod outcome;
 mod print;

@@ -1,5 +1,7 @@
 // This program runs the sessions worked by hand, and events at the limits, through the public call `step`. For each
 // event it prints `ok` and the number of reports, or `no` and the refusal, and then the bytes of the first report.
+#![tactic(auto)]
+
 ghost use Rattle.std.specs.Prelude.{◌<◌};
 
 use detector::{Detector, Event, Reply, StuckReply};

@@ -23,6 +23,7 @@ among_in x (y ∷ l) h = go (among_in x l) (eqb x y) refl h
 
 pub in_among : (x : ℕ) (l : List ℕ) → In x l → among x l ≡ true
 unfolding among
+in_among x [] h = elim h [ ]
 in_among x (y ∷ l) (inl e) = rw (eq-eqb x y e)
 in_among x (y ∷ l) (inr m) = go (eqb x y) (in_among x l m)
   where
@@ -38,6 +39,7 @@ both false b e = absurd (false≢true e)
 -- ---- What stands in two lists joined stands in one of them
 
 pub in_left : (x : ℕ) (a b : List ℕ) → In x a → In x (a ++ b)
+in_left x [] b h = elim h [ ]
 in_left x (y ∷ a) b (inl e) = inl e
 in_left x (y ∷ a) b (inr m) = inr (in_left x a b m)
 
@@ -60,6 +62,7 @@ but n (x ∷ l) = cond (eqb x n) (but n l) (x ∷ but n l)
 -- What is left stood in the list and is not n.
 but_in : (n x : ℕ) (l : List ℕ) → In x (but n l) → In x l × (x ≢ n)
 unfolding but
+but_in n x [] m = elim m [ ]
 but_in n x (y ∷ l) m = go (but_in n x l) (eqb y n) refl m
   where
     go : (In x (but n l) → In x l × (x ≢ n)) → (b : Bool) → eqb y n ≡ b → In x (cond b (but n l) (y ∷ but n l)) → In x (y ∷ l) × (x ≢ n)

@@ -1,4 +1,6 @@
 // Sets of small numbers as masks: the number i is in a set when digit i of its mask is 1.
+#![tactic(auto)]
+
 pub mod locks;
 pub mod threads;
 

@@ -1,5 +1,7 @@
 // Text as bytes. For reading there are fields, numbers, words, and the first bytes of a line that comes in pieces. For
 // printing there are bytes and numbers, put into a buffer that the caller lends. Reading uses nothing of printing.
+#![tactic(auto)]
+
 mod byte;
 mod carry;
 mod decimal;

@@ -18,7 +18,7 @@ use Rattle.detector.specs.State.{tables, Valid}
 use Rattle.detector.specs.declared.state.Detector.{Detector}
 use Rattle.detector.specs.Stuck.{stuck_count, edge_count}
 use Rattle.text.specs.Bytes.{line_feed}
-use Rattle.transcript.specs.Replay.{Run, limit, last_text, after, text_of}
+use Rattle.transcript.specs.Replay.{Run, limit, last_text, text_of}
 use Rattle.text.specs.Lines.{carry_bytes}
 use Rattle.transcript.specs.Chunks.{Mid, mid, step, prints_byte, fed, prints, ends, last_line, OpenLine}
 use Rattle.transcript.specs.Code.{run_of, mid_of, between}

@@ -13,7 +13,7 @@ pub const LIMIT: usize = 1000000;
 
 // Holds a script's run between two bytes of its text: the state, how many lines were read, and how many bytes
 // are carried.
-#[derive(Drop)]
+#[derive(Clone, Copy)]
 pub struct Run {
     pub detector: Detector,
     pub lines: usize,

@@ -282,6 +282,7 @@ all_hold_lem w p =
 -- If `all_read` is true, no lock of the list is without readers; if it is false, one without readers is found.
 read_all : (c : List ℕ) (ls : List ℕ) → all_read c ls ≡ true → (l : ℕ) → In l ls → nobody_reads c l ≡ false
 unfolding all_read
+read_all c [] h l i = elim i [ ]
 read_all c (x ∷ ls) h l i = go (nobody_reads c x) refl h i (read_all c ls)
   where
     go : (b : Bool) → nobody_reads c x ≡ b → cond b false (all_read c ls) ≡ true → In l (x ∷ ls) → (all_read c ls ≡ true → (l : ℕ) → In l ls → nobody_reads c l ≡ false) → nobody_reads c l ≡ false
@@ -300,6 +301,7 @@ read_not c (x ∷ ls) h = go (nobody_reads c x) refl h (read_not c ls)
 
 -- A list is empty exactly when nothing stands in it.
 nothing_in : (l : List ℕ) (x : ℕ) → In x l → nothing l ≡ false
+nothing_in [] x i = elim i [ ]
 nothing_in (y ∷ l) x i = refl
 
 pub in_nothing : (l : List ℕ) → ((x : ℕ) → In x l → ⊥) → nothing l ≡ true

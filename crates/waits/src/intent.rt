@@ -3,7 +3,7 @@ ghost use Rattle.std.specs.Prelude.{◌≡◌};
 ghost use Rattle.waits.specs.Tables.{lock_of};
 
 // Says how a thread wants a lock: as a mutex, to read it, or to write it.
-#[derive(Drop)]
+#[derive(Clone, Copy)]
 pub enum WaitMode {
     Mutex,
     RwRead,
@@ -11,21 +11,21 @@ pub enum WaitMode {
 }
 
 // The intent of a thread: the lock it waits for, and the mode.
-#[derive(Drop)]
+#[derive(Clone, Copy)]
 pub struct WaitIntent {
     pub lock_id: u8,
     pub mode: WaitMode,
 }
 
 // The intent of a thread, or Nothing if it waits for no lock.
-#[derive(Drop)]
+#[derive(Clone, Copy)]
 pub enum Awaits {
     Nothing,
     For(WaitIntent),
 }
 
 // Holds the intent of one thread in the table of intents. If there is none, it holds no lock number either.
-#[derive(Drop)]
+#[derive(Clone, Copy)]
 pub struct Slot {
     pub awaits: Awaits,
 }

@@ -1,4 +1,6 @@
 // Waiting: intents and outcomes, the tables that every event may change, and the rules of waiting on these tables.
+#![tactic(auto)]
+
 mod attempt;
 mod counts;
 mod deadlock_handling;

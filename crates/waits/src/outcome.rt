@@ -2,7 +2,7 @@
 
 // The outcome of an attempt: the lock was taken, or the thread was blocked, perhaps with a hint, the thread that was
 // seen to own the lock.
-#[derive(Drop)]
+#[derive(Clone, Copy)]
 pub enum Outcome {
     Took,
     Blocked,
@@ -10,7 +10,7 @@ pub enum Outcome {
 }
 
 // The outcome of a read that is only tried: taken or missed. There is never a hint.
-#[derive(Drop)]
+#[derive(Clone, Copy)]
 pub enum Tried {
     Taken,
     Missed,

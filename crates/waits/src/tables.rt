@@ -8,7 +8,7 @@ use sets::{LOCKS, NOBODY, THREADS};
 
 // Holds the graph, each thread's intent, each lock's waiters, each thread's holds, and each lock's owner and writer,
 // which may be nobody.
-#[derive(Drop)]
+#[derive(Clone, Copy)]
 pub struct Waits {
     pub wait_for_graph: WaitForGraph,
     pub thread_waits_for: [Slot; THREADS],

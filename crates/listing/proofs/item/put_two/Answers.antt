@@ -1,0 +1,24 @@
+use Rattle.text.proofs.Puts.{then, room_then, room_first}
+use Rattle.listing.proofs.Items.{one_room, one_lists}
+use Rattle.listing.specs.Listing.{two}
+use Rattle.listing.proofs.item.put_two.Goals as goal
+
+pub put_open-p-requires : goal.put_open-p-requires
+unfolding two
+put_open-p-requires c = room_first _ (one_room c.requires)
+
+pub put_number-q-requires : goal.put_number-q-requires
+unfolding two
+put_number-q-requires c = room_first _ (room_then c.put_open-p.ensures (one_room c.requires))
+
+pub put_byte-s-requires : goal.put_byte-s-requires
+unfolding two
+put_byte-s-requires c = room_first _ (room_then c.put_number-q.ensures (room_then c.put_open-p.ensures (one_room c.requires)))
+
+pub put_number-requires : goal.put_number-requires
+unfolding two
+put_number-requires c = room_then c.put_byte-s.ensures (room_then c.put_number-q.ensures (room_then c.put_open-p.ensures (one_room c.requires)))
+
+pub returns : goal.returns
+unfolding two
+returns c = one_lists (then c.put_open-p.ensures (then c.put_number-q.ensures (then c.put_byte-s.ensures c.put_number.ensures)))

@@ -1,0 +1,12 @@
+use Rattle.listing.proofs.Items.{Partly}
+use Rattle.listing.specs.Listing.{set_items}
+use mathlib.Core.Path.{◌≡◌}
+use Prim.Native.Nat.{◌<◌, ◌^◌}
+use lib.ListN.{length}
+use Rattle.listing.proofs.members.put_set.Given as goal
+
+abbrev pub invariant-loop-left : goal.invariant-loop-left
+invariant-loop-left l = (l.left < 2 ^ 64) × Partly l.start l.name (set_items l.sign l.i l.m) (set_items l.sign l.i l.left) l.initial.out l.at l.out l.to × (length l.out ≡ length l.initial.out)
+
+abbrev pub decreases-loop-left : goal.decreases-loop-left
+decreases-loop-left l = l.left
