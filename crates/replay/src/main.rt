@@ -3,6 +3,6 @@
 
 use runner::run_program;
 
-fn main() {
-    run_program(b"replay", false);
+fn main(rt: HostRuntime) {
+    run_program(&rt, b"replay", false);
 }

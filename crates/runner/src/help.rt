@@ -1,5 +1,6 @@
 // This module starts a program: with `--help` or `-h` among the arguments it prints what the program takes, and without
 // them it runs the scripts.
+use crate::arguments::{ARGUMENT_BYTES, argument, argument_count};
 use crate::scripts::run_scripts;
 use text::equal;
 
@@ -12,86 +13,122 @@ fn asks_help(word: &[u8]) -> bool {
 }
 
 // Returns true if one of the program's arguments asks what it takes.
-fn help_asked() -> bool {
-    let n = os::arg_count();
-    let mut i: usize = 1;
-    while i < n {
-        let mut word = io::buffer();
-        let k = os::arg(i, &mut word);
+fn help_asked(rt: &HostRuntime) -> bool {
+    let n = argument_count(rt);
+    for i in 1..n {
+        let mut word = [0u8; ARGUMENT_BYTES];
+        let k = argument(rt, i, &mut word);
         if asks_help(&word[..k]) {
             return true;
         }
-        i = i + 1;
     }
     false
 }
 
 // Writes a text to standard output.
-fn print(text: &[u8]) {
-    io::write_all(libc::STDOUT_FILENO, text);
+fn print(rt: &HostRuntime, text: &[u8]) {
+    let _ = rt.write_all(text);
 }
 
 // Prints how a line is answered, with tables or without.
-fn print_answers(tables: bool) {
+fn print_answers(rt: &HostRuntime, tables: bool) {
     print(
+        rt,
         b"For each line it prints the line's number and ok with the number of reports, or no with the refusal;\n",
     );
     print(
+        rt,
         b"then a line for each report: cycle and its threads, each with the lock that it awaits.\n",
     );
     if tables {
         print(
+            rt,
             b"After that comes a line for each table that is not empty: table, its name, its items.\n",
         );
     }
     print(
+        rt,
         b"Last comes end with the lines read, the edges stored and the threads that are stuck.\n",
     );
 }
 
 // Prints the words of a script, with t for a thread, l for a lock, c for a condvar and o for how an attempt came out.
-fn print_words() {
-    print(b"    ma t l o   attempt on a mutex      mc t l     mutex acquired\n");
-    print(b"    mr t l     mutex released          md l       mutex gone\n");
-    print(b"    ra t l o   attempt to read         rc t l     read acquired\n");
-    print(b"    rt t l o   try to read             rr t l     read released\n");
-    print(b"    wa t l o   attempt to write        wc t l     write acquired\n");
-    print(b"    wr t l     write released          rd l       rwlock gone\n");
-    print(b"    cn c       condvar made            cd c       condvar gone\n");
-    print(b"    cb t c l   wait on it begins       ce t c l   wait on it ends\n");
-    print(b"    c1 c       one thread is woken     ca c       all are woken\n\n");
+fn print_words(rt: &HostRuntime) {
+    print(
+        rt,
+        b"    ma t l o   attempt on a mutex      mc t l     mutex acquired\n",
+    );
+    print(
+        rt,
+        b"    mr t l     mutex released          md l       mutex gone\n",
+    );
+    print(
+        rt,
+        b"    ra t l o   attempt to read         rc t l     read acquired\n",
+    );
+    print(
+        rt,
+        b"    rt t l o   try to read             rr t l     read released\n",
+    );
+    print(
+        rt,
+        b"    wa t l o   attempt to write        wc t l     write acquired\n",
+    );
+    print(
+        rt,
+        b"    wr t l     write released          rd l       rwlock gone\n",
+    );
+    print(
+        rt,
+        b"    cn c       condvar made            cd c       condvar gone\n",
+    );
+    print(
+        rt,
+        b"    cb t c l   wait on it begins       ce t c l   wait on it ends\n",
+    );
+    print(
+        rt,
+        b"    c1 c       one thread is woken     ca c       all are woken\n\n",
+    );
 }
 
 // Prints what the program takes, with an example.
-fn print_help(program: &[u8], tables: bool) {
-    print(b"usage: ");
-    print(program);
-    print(b" [SCRIPT ..]\n\n");
+fn print_help(rt: &HostRuntime, program: &[u8], tables: bool) {
+    print(rt, b"usage: ");
+    print(rt, program);
+    print(rt, b" [SCRIPT ..]\n\n");
     print(
+        rt,
         b"Reads each script from the empty state, or standard input where no script is named. A script has an event on\n",
     );
     print(
+        rt,
         b"each line: a word and its fields, with a tab between every two. The fields are threads t (0 to 31), locks l (0 to\n",
     );
     print(
+        rt,
         b"63) and condvars c (0 to 15); an attempt ends with how it came out, o: took, or - for blocked, or the thread that\n",
     );
-    print(b"was seen to own the lock.\n\n");
-    print_words();
-    print_answers(tables);
-    print(b"\nFor example, two threads that each hold one mutex and want the other's:\n\n");
+    print(rt, b"was seen to own the lock.\n\n");
+    print_words(rt);
+    print_answers(rt, tables);
     print(
+        rt,
+        b"\nFor example, two threads that each hold one mutex and want the other's:\n\n",
+    );
+    print(
+        rt,
         b"    printf 'ma\\t1\\t5\\ttook\\nma\\t2\\t6\\ttook\\nma\\t1\\t6\\t-\\nma\\t2\\t5\\t-\\n' | ",
     );
-    print(program);
-    print(b"\n");
+    print(rt, program);
+    print(rt, b"\n");
 }
 
 // Prints what the program takes if that is asked for, and otherwise runs its scripts.
-pub fn run_program(program: &[u8], tables: bool) {
-    if help_asked() {
-        print_help(program, tables);
+pub fn run_program(rt: &HostRuntime, program: &[u8], tables: bool) {
+    if help_asked(rt) {
+        print_help(rt, program, tables);
         return;
     }
-    run_scripts(program, tables);
+    run_scripts(rt, program, tables);
 }

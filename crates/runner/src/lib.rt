@@ -2,6 +2,7 @@
 // it all tables if they are asked for, and at a script's end the totals.
 #![tactic(auto)]
 
+mod arguments;
 mod chunks;
 mod help;
 mod part;

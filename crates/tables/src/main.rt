@@ -3,6 +3,6 @@
 
 use runner::run_program;
 
-fn main() {
-    run_program(b"tables", true);
+fn main(rt: HostRuntime) {
+    run_program(&rt, b"tables", true);
 }

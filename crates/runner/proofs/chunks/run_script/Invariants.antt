@@ -1,0 +1,5 @@
+use Rattle.transcript.specs.Promises.{IsRun}
+use Rattle.runner.proofs.chunks.run_script.Given as goal
+
+abbrev pub invariant-loop : goal.invariant-loop
+invariant-loop g l = IsRun l.r l.carry
