@@ -40,7 +40,7 @@ pub(crate) fn put_part(
     buf: &mut [u8],
 ) -> Turned
     requires run { IsRun run carry.old × (run.lines < limit) × (from < length chunk.now) }
-    requires out_len { (length out.old ≡ out_bytes) × (length buf.old ≡ buffer_bytes) }
+    requires buffers { (length out.old ≡ out_bytes) × (length buf.old ≡ buffer_bytes) }
     ensures { Puts tables run carry.old chunk.now from out.old result carry.new out.new }
 {
     let lines = run.lines;
