@@ -9,6 +9,7 @@ use crate::chunks::{Ending, run_script};
 use detector::Detector;
 use std::fs::{File, OpenOptions};
 use std::io;
+use std::io::Write;
 use std::rt::Files;
 use std::str::from_utf8;
 use text::CARRY_BYTES;
@@ -18,6 +19,9 @@ const CHUNK_BYTES: usize = 65536;
 
 // The out buffer has room for an answer with all tables after it, and for the totals.
 const OUT_BYTES: usize = 131072;
+
+// A reason why something failed has at most this many bytes.
+const REASON_BYTES: usize = 512;
 
 // Returns an out buffer of zeros.
 fn out_buffer() -> [u8; OUT_BYTES]
@@ -31,11 +35,26 @@ fn print_error(rt: &HostRuntime, text: &[u8]) {
     let _ = rt.stderr().write_all(text);
 }
 
+// Returns why something failed, without the number that std puts behind it, as " (os error 2)".
+fn plain(reason: &str) -> &str {
+    match reason.split_once(" (os error ") {
+        Some((words, _)) => words,
+        None => reason,
+    }
+}
+
 // Writes to standard error what failed, a colon and why, and ends the line.
 fn fail(rt: &HostRuntime, what: &[u8], error: io::Error) {
+    let mut line = [0u8; REASON_BYTES];
+    let mut room = line.as_mut_slice();
+    let _ = write!(room, "{error}");
+    let n = REASON_BYTES.saturating_sub(room.len());
     print_error(rt, what);
     print_error(rt, b": ");
-    let _ = rt.eprintln(error);
+    if let Ok(reason) = from_utf8(&line[..n]) {
+        print_error(rt, plain(reason).as_bytes());
+    }
+    print_error(rt, b"\n");
 }
 
 // Prints two lines on standard error: which script cannot be read and why, and what the program takes.
