@@ -1,5 +1,5 @@
 -- The proofs of the statements in specs/. Theorems stand beside the file that proves them.
--- sessions-hold, further-hold, cv-waits-hold
+-- sessions_hold, further_hold, cv_waits_hold
 pub mod Sessions
 -- These five show what the rules of waiting, the judgements and the events keep.
 pub mod Keeping
@@ -7,12 +7,12 @@ pub mod Held
 pub mod Fine
 pub mod Reports
 pub mod Events
--- reached-kept, reached-brief; demand 3: first-half
+-- reached_kept, reached_brief; demand 3: first_half
 pub mod Invariants
--- Demand 3: second-half
+-- Demand 3: second_half
 pub mod Exact
--- Demand 1: step-answered
+-- Demand 1: step_answered
 pub mod StepAnswered
--- Demand 1: all-answered, all-answered-from-new, each-answered, refused-by-number; demand 2: as-ruled,
--- coincide, steps-coincide; demand 3: reports-true, converse
+-- Demand 1: all_answered, all_answered_from_new, each_answered, refused_by_number; demand 2: as_ruled,
+-- coincide, steps_coincide; demand 3: reports_true, converse
 pub mod Demands

@@ -35,7 +35,7 @@ use Rattle.detector.proofs.Numbers.{accepted, queue_length}
 use Rattle.detector.specs.Effects.{effect}
 use Rattle.detector.specs.Brief.{most, ShortQueues, Brief, AllBrief, ValidBrief}
 
--- States that there are at most n reports, and that they take at most reportBytes for each.
+-- States that there are at most n reports, and that they take at most report_bytes for each.
 record Short (n : ℕ) (rs : List Report) : Type 0 where
   few : length rs ≤ n
   bytes : length (written rs) ≤ report_bytes * length rs
@@ -194,7 +194,7 @@ most_32 (CondvarWaitEnd t c l) = lit≤ tt
 
 -- ---- THEOREMS
 
--- At most 32 reports, each of at most reportBytes, have room in the buffer.
+-- At most 32 reports, each of at most report_bytes, have room in the buffer.
 brief : (e : Event) (rs : List Report) → Short (most e) rs → Brief e rs
 brief e rs s = record { few = s.few; room = omega (arith, s.few, s.bytes, most_32 e) }
 

@@ -1,2 +1,2 @@
--- Theorems: run-taken, feed-taken, end-taken.
+-- Theorems: run_taken, feed_taken, end_taken.
 pub mod Guards

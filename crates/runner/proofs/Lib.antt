@@ -1,3 +1,3 @@
--- Laws about what tables prints. Theorems: shown-theorem (Text) and open-shown (Lines).
+-- Laws about what tables prints. Theorems: shown_theorem (Text) and open_shown (Lines).
 pub mod Lines
 pub mod Text

@@ -1,5 +1,5 @@
--- Laws about scripts in chunks. Theorems: text-theorem (Text), open-line (Feeding), all-printed,
--- feeds-coincide, calls-move and texts-answered (Calls).
+-- Laws about scripts in chunks. Theorems: text_theorem (Text), open_line (Feeding), all_printed,
+-- feeds_coincide, calls_move and texts_answered (Calls).
 pub mod Text
 pub mod Chunk
 pub mod Carry

@@ -83,13 +83,13 @@ module _ (w : Waits) (ts : List ℕ) (n : ℕ) (b : n ≤ length ts) where
   report_head buf from =
       ap (λ (k : ℕ). laid (set buf from k) (from + 1) (entered_by w (take n ts))) (sym (length-map (take n ts) (entry_of w) ∙ length-take-le n ts b)) ∙ sym (laid_one buf from _ _)
 
--- The entries have entryBytes each.
+-- The entries have entry_bytes each.
 pub length_entries : (es : List Entry) → length (entries_text es) ≡ entry_bytes * length es
 unfolding entries_text
 length_entries [] = refl
 length_entries (e ∷ es) = omega (arith, length_entries es)
 
--- A report of n threads has 1 + entryBytes * n bytes.
+-- A report of n threads has 1 + entry_bytes * n bytes.
 pub length_bytes : (w : Waits) (p : List ℕ) → length (bytes_of (report w p)) ≡ 1 + entry_bytes * length p
 unfolding bytes_of
 length_bytes w p = omega (arith, length_entries (map (entry_of w) p), length-map p (entry_of w))

@@ -10,7 +10,7 @@ unfoldable pub laid : List ℕ → ℕ → List ℕ → List ℕ
 laid b at s = sets b at s
 
 -- States that the code's result r is the rule's result a: its tables, its number of reports, and its bytes in the
--- buffer, which is b before the call and e after it. There is at most one report, of at most reportBytes.
+-- buffer, which is b before the call and e after it. There is at most one report, of at most report_bytes.
 pub record Judges (r : Judged) (b e : List ℕ) (from : ℕ) (a : Judging) : Type 0 where
   pub waits : r.waits ≡ a.waits
   pub count : r.reports ≡ length a.reports
