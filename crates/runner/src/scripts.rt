@@ -35,15 +35,8 @@ fn print_error(rt: &HostRuntime, text: &[u8]) {
     let _ = rt.stderr().write_all(text);
 }
 
-// Returns why something failed, without the number that std puts behind it, as " (os error 2)".
-fn plain(reason: &str) -> &str {
-    match reason.split_once(" (os error ") {
-        Some((words, _)) => words,
-        None => reason,
-    }
-}
-
-// Writes to standard error what failed, a colon and why, and ends the line.
+// Writes to standard error what failed, a colon and why, and ends the line. The number that std puts behind the
+// reason, as " (os error 2)", is left out.
 fn fail(rt: &HostRuntime, what: &[u8], error: io::Error) {
     let mut line = [0u8; REASON_BYTES];
     let mut room = line.as_mut_slice();
@@ -52,7 +45,11 @@ fn fail(rt: &HostRuntime, what: &[u8], error: io::Error) {
     print_error(rt, what);
     print_error(rt, b": ");
     if let Ok(reason) = from_utf8(&line[..n]) {
-        print_error(rt, plain(reason).as_bytes());
+        let words = match reason.split_once(" (os error ") {
+            Some((before, _)) => before,
+            None => reason,
+        };
+        print_error(rt, words.as_bytes());
     }
     print_error(rt, b"\n");
 }
