@@ -5,20 +5,21 @@ use Rattle.text.specs.Bytes.{text}
 use Rattle.text.specs.Decimal.{decimal, decimal_in, tabbed}
 use Rattle.answers.specs.Reports.{entries_in, reports_in}
 use Rattle.answers.specs.Answers.{reply_text, item_text, cycle_text, cycles_text, answer_text, end_text}
-use Rattle.detector.specs.declared.reply.Reply.TheVariants.{Reports, Refused}
+use Rattle.std.specs.Prelude.{Ok, Err}
+use Rattle.detector.specs.declared.refused.Refusal.TheVariants.{Thread}
 
 -- The last line of session 1 closes a cycle of two threads.
-p1 : answer_text 4 (Reports 1) (2 ∷ 1 ∷ 6 ∷ 2 ∷ 5 ∷ 0 ∷ []) ≡ text "4\tok\t1\ncycle\t1:6\t2:5\n"
+p1 : answer_text 4 (Ok 1) (2 ∷ 1 ∷ 6 ∷ 2 ∷ 5 ∷ 0 ∷ []) ≡ text "4\tok\t1\ncycle\t1:6\t2:5\n"
 unfolding answer_text reply_text cycles_text cycle_text item_text reports_in entries_in tabbed decimal decimal_in
 p1 = refl
 
 -- Of these two reports the second has no entry.
-two_reports : answer_text 1000000 (Reports 2) (1 ∷ 31 ∷ 63 ∷ 0 ∷ []) ≡ text "1000000\tok\t2\ncycle\t31:63\ncycle\n"
+two_reports : answer_text 1000000 (Ok 2) (1 ∷ 31 ∷ 63 ∷ 0 ∷ []) ≡ text "1000000\tok\t2\ncycle\t31:63\ncycle\n"
 unfolding answer_text reply_text cycles_text cycle_text item_text reports_in entries_in tabbed decimal decimal_in
 two_reports = refl
 
 -- For a refused line nothing of the report buffer is printed.
-refused : answer_text 12 (Refused 3) (2 ∷ 1 ∷ 6 ∷ []) ≡ text "12\tno\t3\n"
+refused : answer_text 12 (Err Thread) (2 ∷ 1 ∷ 6 ∷ []) ≡ text "12\tno\t3\n"
 unfolding answer_text reply_text cycles_text reports_in tabbed decimal decimal_in
 refused = refl
 

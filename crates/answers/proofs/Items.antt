@@ -12,8 +12,8 @@ use Rattle.text.specs.Decimal.{decimal, with_tab, tabbed, line}
 use Rattle.waits.specs.Report.{Entry, entry_bytes}
 use Rattle.answers.specs.Reports.{entry_in, entries_in, report_in, report_size, reports_in, reports_size}
 use Rattle.answers.specs.Answers.{verdict, number, reply_text, item_text, items_text, cycle_text, cycles_text, answer_text, end_text}
-use Rattle.detector.specs.declared.reply.Reply.{Reply}
-use Rattle.detector.specs.declared.reply.Reply.TheVariants.{Reports, Refused}
+use Rattle.detector.specs.declared.refused.Refusal.{Refusal}
+use Rattle.std.specs.Prelude.{Result, Ok, Err}
 
 -- Returns the fields, each with a tab before it, and then a line feed.
 abbrev ended : List (List ℕ) → List ℕ
@@ -29,7 +29,7 @@ line_ended : (f : List ℕ) (fs : List (List ℕ)) → line (f ∷ fs) ≡ f ++ 
 line_ended f fs = append_assoc f (tabbed fs) (text "\n") ∙ ap (λ (x : List ℕ). f ++ x) (tabbed_ended fs)
 
 -- The reply line, the `end` line and a `cycle` line consist of the parts that the code puts.
-pub reply_parts : (n : ℕ) (r : Reply) → reply_text n r ≡ decimal n ++ (with_tab (verdict r) ++ (with_tab (decimal (number r)) ++ text "\n"))
+pub reply_parts : (n : ℕ) (r : Result ℕ Refusal) → reply_text n r ≡ decimal n ++ (with_tab (verdict r) ++ (with_tab (decimal (number r)) ++ text "\n"))
 unfolding reply_text
 reply_parts n r = line_ended (decimal n) (verdict r ∷ decimal (number r) ∷ [])
 
@@ -50,7 +50,7 @@ pub item_parts : (b : List ℕ) (p t l : ℕ) → t ≡ get_or b p 0 → l ≡ g
 unfolding item_text
 item_parts b p t l e f = simp (get_or-drop, add-zero, ← e, ← f) (ap (λ (x : List ℕ). with_tab x) (append_assoc (decimal t) (text ":") (decimal l)))
 
-pub items_more : (n p : ℕ) (b : List ℕ) → 0 < n → items_text (entries_in n (drop p b)) ≡ with_tab (item_text (entry_in (drop p b))) ++ items_text (entries_in (n - 1) (drop (p + entry_bytes) b))
+items_more : (n p : ℕ) (b : List ℕ) → 0 < n → items_text (entries_in n (drop p b)) ≡ with_tab (item_text (entry_in (drop p b))) ++ items_text (entries_in (n - 1) (drop (p + entry_bytes) b))
 unfolding entries_in tabbed
 items_more zero p b h = absurd (omega arith)
 items_more (suc n) p b h = simp (drop-drop, suc_sub_one)
@@ -71,24 +71,40 @@ cycles_none (suc n) b h = absurd (omega arith)
 next_report : (b : List ℕ) (p m : ℕ) → m ≡ get_or b p 0 → p + report_size (drop p b) ≡ p + 1 + entry_bytes * m
 next_report b p m e = simp (get_or-drop, add-zero, ← e) (omega arith)
 
-pub cycles_more : (n p m : ℕ) (b : List ℕ) → 0 < n → m ≡ get_or b p 0 → cycles_text (reports_in n (drop p b)) ≡ cycle_text (report_in (drop p b)) ++ cycles_text (reports_in (n - 1) (drop (p + 1 + entry_bytes * m) b))
+cycles_more : (n p m : ℕ) (b : List ℕ) → 0 < n → m ≡ get_or b p 0 → cycles_text (reports_in n (drop p b)) ≡ cycle_text (report_in (drop p b)) ++ cycles_text (reports_in (n - 1) (drop (p + 1 + entry_bytes * m) b))
 unfolding reports_in cycles_text
 cycles_more zero p m b h e = absurd (omega arith)
 cycles_more (suc n) p m b h e = rw (drop-drop (report_size (drop p b)) p b, next_report b p m e, suc_sub_one)
 
-pub size_more : (n p m : ℕ) (b : List ℕ) → 0 < n → m ≡ get_or b p 0 → reports_size n (drop p b) ≡ 1 + entry_bytes * m + reports_size (n - 1) (drop (p + 1 + entry_bytes * m) b)
+size_more : (n p : ℕ) (b : List ℕ) → 0 < n → reports_size n (drop p b) ≡ 1 + entry_bytes * get_or b p 0 + reports_size (n - 1) (drop (p + 1 + entry_bytes * get_or b p 0) b)
 unfolding reports_size
-size_more zero p m b h e = absurd (omega arith)
-size_more (suc n) p m b h e =
-    let s : report_size (drop p b) ≡ 1 + entry_bytes * m = simp (get_or-drop, add-zero, ← e) in
-    rw (drop-drop (report_size (drop p b)) p b, next_report b p m e, suc_sub_one) (omega arith)
+size_more zero p b h = absurd (omega arith)
+size_more (suc n) p b h =
+    let s : report_size (drop p b) ≡ 1 + entry_bytes * get_or b p 0 = simp (get_or-drop, add-zero) in
+    rw (drop-drop (report_size (drop p b)) p b, next_report b p (get_or b p 0) refl, suc_sub_one) (omega arith)
+
+-- ---- A turn: of n entries or reports, i are done
+
+next_left : (n i : ℕ) → n - i - 1 ≡ n - (i + 1)
+next_left n i = omega arith
+
+pub items_turn : (n i p : ℕ) (b : List ℕ) → i < n → items_text (entries_in (n - i) (drop (p + entry_bytes * i) b)) ≡ with_tab (item_text (entry_in (drop (p + entry_bytes * i) b))) ++ items_text (entries_in (n - (i + 1)) (drop (p + entry_bytes * (i + 1)) b))
+items_turn n i p b h =
+    let e : p + entry_bytes * i + entry_bytes ≡ p + entry_bytes * (i + 1) = omega arith in
+    items_more (n - i) (p + entry_bytes * i) b (omega arith) ∙ rw (next_left n i, e)
+
+pub cycles_turn : (n i p m : ℕ) (b : List ℕ) → i < n → m ≡ get_or b p 0 → cycles_text (reports_in (n - i) (drop p b)) ≡ cycle_text (report_in (drop p b)) ++ cycles_text (reports_in (n - (i + 1)) (drop (p + 1 + entry_bytes * m) b))
+cycles_turn n i p m b h e = cycles_more (n - i) p m b (omega arith) e ∙ rw (next_left n i)
+
+pub size_turn : (n i p : ℕ) (b : List ℕ) → i < n → reports_size (n - i) (drop p b) ≡ 1 + entry_bytes * get_or b p 0 + reports_size (n - (i + 1)) (drop (p + 1 + entry_bytes * get_or b p 0) b)
+size_turn n i p b h = size_more (n - i) p b (omega arith) ∙ rw (next_left n i)
 
 -- ---- The answer to a refused line, and to a served one
 
-pub answer_no : (n k : ℕ) (r : Reply) (b : List ℕ) → r ≡ Refused k → answer_text n r b ≡ reply_text n r
+pub answer_no : (n : ℕ) (k : Refusal) (r : Result ℕ Refusal) (b : List ℕ) → r ≡ Err k → answer_text n r b ≡ reply_text n r
 unfolding answer_text reports_in cycles_text
-answer_no n k r b e = rw e (append-nil (reply_text n (Refused k)))
+answer_no n k r b e = rw e (append-nil (reply_text n (Err k)))
 
-pub answer_ok : (n m : ℕ) (r : Reply) (b : List ℕ) → r ≡ Reports m → answer_text n r b ≡ reply_text n r ++ cycles_text (reports_in m b)
+pub answer_ok : (n m : ℕ) (r : Result ℕ Refusal) (b : List ℕ) → r ≡ Ok m → answer_text n r b ≡ reply_text n r ++ cycles_text (reports_in m b)
 unfolding answer_text
 answer_ok n m r b e = rw e

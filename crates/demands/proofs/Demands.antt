@@ -13,16 +13,14 @@ use Rattle.waits.proofs.Judging.{laid_none}
 use Rattle.detector.specs.Tables.{Tables, Effect, empty}
 use Rattle.detector.specs.Refusals.{refusal, buffer_bytes}
 use Rattle.detector.specs.State.{pairs_of, tables, Valid}
-use Rattle.detector.specs.Promises.{refusal_of, refused_by, reports_of, Steps}
+use Rattle.detector.specs.Numbered.{numbered, refused_by, reports_of}
+use Rattle.detector.specs.Promises.{refusal_of, Steps}
 use Rattle.detector.specs.declared.event.Event.{Event}
 use Rattle.detector.specs.declared.event.Event.TheVariants.{MutexAttempt, RwWriteAttempt, RwReadAttempt}
 use Rattle.detector.specs.declared.state.Detector.{Detector}
-use Rattle.detector.specs.declared.reply.Stepped.{Stepped}
-use Rattle.detector.specs.declared.reply.Reply.{Reply}
-use Rattle.detector.specs.declared.reply.Reply.TheVariants.{Refused}
 use Rattle.detector.specs.Effects.{effect, replied}
 use Rattle.demands.specs.Reached.{reach, Reached}
-use Rattle.demands.specs.Driven.{Call, Back, Driven, none, next, Starts}
+use Rattle.demands.specs.Driven.{Call, Stepped, Back, Driven, none, next, Starts}
 use Rattle.detector.specs.Typed.{Typed}
 use Rattle.demands.specs.Demand1.{AllAnswered, AllAnsweredFromNew, EachAnswered, RefusedByNumber}
 use Rattle.demands.specs.Demand2.{onward, backs, reach_by, NoTwo, FedAsRuled, Coincide, StepsCoincide}
@@ -35,6 +33,9 @@ use Rattle.demands.proofs.StepAnswered.{step_answered, starts_typed, served_held
 use Rattle.detector.proofs.Validity.{valid_tested}
 use Rattle.detector.proofs.Numbers.{refusal_known}
 use Rattle.detector.proofs.SameState.{same_state}
+use Rattle.detector.specs.declared.refused.Refusal.{Refusal}
+use Rattle.std.specs.Prelude.{Result}
+use Rattle.demands.proofs.Replying.{number_numbered, refused_is, same_refusal}
 
 -- ---- DEMAND 1
 
@@ -60,10 +61,10 @@ refused_by_number d ev r b e s = record { number = number (refusal_of d (length 
   where
     number : (n : ℕ) → refusal_of d (length b) ev ≡ n → refused_by r.reply ≡ refusal_of d (length b) ev
     number zero q = ap refused_by (s.served q).0 ∙ sym q
-    number (suc n) q = ap (λ (a : Stepped). refused_by a.reply) (s.refused (omega arith)).0
+    number (suc n) q = (s.refused (omega arith)).0
 
     same : 0 < refusal_of d (length b) ev → (r.detector ≡ d) × (e ≡ b)
-    same h = let p = s.refused h in (ap (λ (a : Stepped). a.detector) p.0, p.1)
+    same h = let p = s.refused h in (p.1, p.2)
 
 -- ---- The rules' run
 
@@ -97,7 +98,7 @@ refused_replied x n e = go (ℕ_discrete (refusal x n e) 0)
   where
     go : Dec (refusal x n e ≡ 0) → refused_by (replied x n e) ≡ refusal x n e
     go (yes h) = rw h
-    go (no h) = rw (ne_eqb (refusal x n e) 0 h)
+    go (no h) = rw (ne_eqb (refusal x n e) 0 h) (number_numbered (refusal x n e) (omega arith) (refusal_known x n e).most)
 
 no_two_lem : (ks : List Call) (x : Tables) → NoTwo (backs x ks)
 unfolding backs
@@ -116,7 +117,7 @@ record Follows (d : Detector) (ev : Event) (r : Stepped) (b e : List ℕ) : Type
   after : tables r.detector ≡ (effect (tables d) (length b) ev).tables
   valid : Valid r.detector
 
-same_back : {p q : Reply} {b c : List ℕ} → p ≡ q → b ≡ c → ◌≡◌ {A = Back} (record { reply = p; buffer = b }) (record { reply = q; buffer = c })
+same_back : {p q : Result ℕ Refusal} {b c : List ℕ} → p ≡ q → b ≡ c → ◌≡◌ {A = Back} (record { reply = p; buffer = b }) (record { reply = q; buffer = c })
 same_back p q = λ i. record { reply = p i; buffer = q i }
 
 counted : (x : Tables) (n : ℕ) (e : Event) → reports_of (replied x n e) ≡ length (effect x n e).reports
@@ -126,7 +127,7 @@ counted x n e = go (ℕ_discrete (refusal x n e) 0)
     go (yes h) = rw h
     go (no h) = rw (ne_eqb (refusal x n e) 0 h, effect_refused x n e h)
 
-follows : (d : Detector) (ev : Event) (r : Stepped) (b e : List ℕ) → Valid d → Steps d ev r b e → Follows d ev r b e
+follows : (d : Detector) (ev : Event) (r : Stepped) (b e : List ℕ) → Valid d → Steps d ev r.detector r.reply b e → Follows d ev r b e
 unfolding refusal_of written
 follows d ev r b e v s = go (ℕ_discrete (refusal (tables d) (length b) ev) 0)
   where
@@ -145,10 +146,10 @@ follows d ev r b e v s = go (ℕ_discrete (refusal (tables d) (length b) ev) 0)
     go (no h) =
         let p = s.refused (omega (arith, ruled)) in
         record {
-          reply = ap (λ (a : Stepped). a.reply) p.0 ∙ rw (ne_eqb (refusal (tables d) (length b) ev) 0 h) (ap Refused ruled);
-          bytes = rw (effect_refused (tables d) (length b) ev h) (p.1 ∙ sym (laid_none b 0));
-          after = rw (effect_refused (tables d) (length b) ev h) (ap (λ (a : Stepped). tables a.detector) p.0);
-          valid = subst Valid (sym (ap (λ (a : Stepped). a.detector) p.0)) v;
+          reply = refused_is r.reply (omega (arith, p.0, ruled)) ∙ rw (p.0, ruled, ne_eqb (refusal (tables d) (length b) ev) 0 h);
+          bytes = rw (effect_refused (tables d) (length b) ev h) (p.2 ∙ sym (laid_none b 0));
+          after = rw (effect_refused (tables d) (length b) ev h) (ap tables p.1);
+          valid = subst Valid (sym p.1) v;
         }
 
 -- States that calls from a valid state give back what the rules give, and lead to a valid state.
@@ -188,7 +189,7 @@ coincide d e d' e' ks bs bs' s f s' f' =
     (n.answers ∙ sym m.answers, n.state ∙ sym m.state)
 
 -- As many queues come out of a step as the types can hold.
-queues_out : (d : Detector) (ev : Event) (r : Stepped) (b e : List ℕ) → Typed d → Steps d ev r b e → refusal_of d (length b) ev ≡ 0 → length r.detector.condvars.cv_waiters ≡ 16
+queues_out : (d : Detector) (ev : Event) (r : Stepped) (b e : List ℕ) → Typed d → Steps d ev r.detector r.reply b e → refusal_of d (length b) ev ≡ 0 → length r.detector.condvars.cv_waiters ≡ 16
 queues_out d ev r b e y s z =
     sym (length-map r.detector.condvars.cv_waiters pairs_of)
     ∙ ap (λ (x : Tables). length x.cv_waiters) (s.served z).1.state
@@ -201,14 +202,14 @@ steps_coincide d ev r q b e f h s t = go (refusal_of d (length b) ev) refl
     go zero z =
         let x = s.served z in
         let y = t.served z in (
-          ap₂ (λ (c : Detector) (p : Reply). record { detector = c; reply = p })
+          ap₂ (λ (c : Detector) (p : Result ℕ Refusal). record { detector = c; reply = p })
               (same_state r.detector q.detector x.1.valid y.1.valid (queues_out d ev r b e h s z) (queues_out d ev q b f h t z) (x.1.state ∙ sym y.1.state)) (x.0 ∙ sym y.0),
           x.1.bytes ∙ sym y.1.bytes,
         )
     go (suc n) z =
         let x = s.refused (omega (arith, z)) in
         let y = t.refused (omega (arith, z)) in
-        (x.0 ∙ sym y.0, x.1 ∙ sym y.1)
+        (ap₂ (λ (c : Detector) (p : Result ℕ Refusal). record { detector = c; reply = p }) (x.1 ∙ sym y.1) (same_refusal r.reply q.reply (x.0 ∙ sym y.0) (omega (arith, x.0, z))), x.2 ∙ sym y.2)
 
 -- A state that is fed from the empty one is reached.
 fed_reached : (d₀ d : Detector) (ks : List Call) (bs : List Back) → Starts d₀ → Driven d₀ ks bs d → Reached (tables d)

@@ -4,7 +4,8 @@ use mathlib.Core.Path.{◌≡◌, refl, sym, ap, ◌∙◌, subst}
 use mathlib.Core.Logic.{◌⊎◌, inl, inr, ◌↔◌}
 use mathlib.Core.List.{List, [], ◌∷◌}
 use mathlib.Core.Bool.{Bool, true, false, not, cond, true≢false, false≢true}
-use mathlib.Core.Option.{Option, none, some, some-injective}
+use Rattle.std.specs.Prelude.{Option, None, Some}
+use Rattle.std.proofs.lemmas.Option.{none-some, same_Some}
 use Prim.Native.Nat.{ℕ, ◌<◌}
 use native.Mathlib.Omega.{arith}
 use native.Mathlib.Decide.{ℕ_discrete, dec_lt}
@@ -26,7 +27,7 @@ use Rattle.graph.specs.declared.wait_for_graph.WaitForGraph.{WaitForGraph}
 use Rattle.graph.proofs.Ways.{no_cycle, acyclic_within, ring_map, ring_cycle}
 use Rattle.graph.proofs.Good.{cleared_edge}
 use Rattle.graph.proofs.Register.{register_ring, register_none}
-use Rattle.waits.specs.Tables.{no_slot, intent_of, holds_of, owner_of, writer_of, with_graph, own, write}
+use Rattle.waits.specs.Tables.{intent_of, holds_of, owner_of, writer_of, with_graph, own, write}
 use Rattle.waits.specs.Counts.{count_of, reads, readers}
 use Rattle.waits.specs.Owners.{then_writer, owners_for, owners, blocking, waits_for}
 use Rattle.waits.specs.Waiting.{unwaited, clear, set_intent, register}
@@ -35,12 +36,9 @@ use Rattle.waits.specs.Report.{Judging, quiet, reporting}
 use Rattle.waits.specs.Validate.{around, valid, names, validate}
 use Rattle.waits.specs.Attempt.{judge_found, sieve_found, block, block_mutex, mutex_on, read_on, write_on, free, block_write}
 use Rattle.waits.specs.declared.tables.Waits.{Waits}
-use Rattle.waits.specs.declared.intent.Slot.{Slot}
 use Rattle.waits.specs.declared.intent.WaitIntent.{WaitIntent}
 use Rattle.waits.specs.declared.intent.WaitMode.{WaitMode}
 use Rattle.waits.specs.declared.intent.WaitMode.TheVariants.{Mutex, RwRead, RwWrite}
-use Rattle.waits.specs.declared.intent.Awaits.{Awaits}
-use Rattle.waits.specs.declared.intent.Awaits.TheVariants.{Nothing, For}
 use Rattle.waits.specs.declared.outcome.Outcome.{Outcome}
 use Rattle.waits.specs.declared.outcome.Outcome.TheVariants.{Took, Blocked, Hinted}
 use Rattle.waits.proofs.Laws.{owners_lt}
@@ -73,15 +71,15 @@ owners_same c v w i p q = go i.mode
     go RwRead = ap one q
     go RwWrite = ap (then_writer (readers c i.lock_id)) q
 
-blocking_same : (c : List ℕ) (v w : Waits) → (v.mutex_owners ≡ w.mutex_owners) → (v.rwlock_writer ≡ w.rwlock_writer) → (a : Awaits) → blocking c v a ≡ blocking c w a
-blocking_same c v w p q Nothing = refl
-blocking_same c v w p q (For i) = owners_same c v w i (ap (λ (l : List ℕ). row l i.lock_id) p) (ap (λ (l : List ℕ). row l i.lock_id) q)
+blocking_same : (c : List ℕ) (v w : Waits) → (v.mutex_owners ≡ w.mutex_owners) → (v.rwlock_writer ≡ w.rwlock_writer) → (a : Option WaitIntent) → blocking c v a ≡ blocking c w a
+blocking_same c v w p q None = refl
+blocking_same c v w p q (Some i) = owners_same c v w i (ap (λ (l : List ℕ). row l i.lock_id) p) (ap (λ (l : List ℕ). row l i.lock_id) q)
 
 -- So true waits depend on three.
 waits_same : (c : List ℕ) (v w : Waits) → (v.thread_waits_for ≡ w.thread_waits_for) → (v.mutex_owners ≡ w.mutex_owners) → (v.rwlock_writer ≡ w.rwlock_writer)
     → (a b : ℕ) → waits_for c v a b ≡ waits_for c w a b
 unfolding waits_for
-waits_same c v w s p q a b = ap (λ (z : List Slot). among b (blocking c v (get_or z a no_slot).awaits)) s ∙ ap (among b) (blocking_same c v w p q (intent_of w a))
+waits_same c v w s p q a b = ap (λ (z : List (Option WaitIntent)). among b (blocking c v (get_or z a None))) s ∙ ap (among b) (blocking_same c v w p q (intent_of w a))
 
 -- ---- What setting an intent changes
 
@@ -90,33 +88,33 @@ module _ (v : Waits) (t : ℕ) (i : WaitIntent) where
   unfolding set_intent clear
   set_graph = ap (λ (g : WaitForGraph). clear_wait_edges g t) (unwaited_graph v t (intent_of v t))
 
-  set_same : length v.thread_waits_for ≡ 32 → t < 32 → intent_of (set_intent v t i) t ≡ For i
+  set_same : length v.thread_waits_for ≡ 32 → t < 32 → intent_of (set_intent v t i) t ≡ Some i
   unfolding set_intent clear
-  set_same n h = ap (λ (s : Slot). s.awaits) (get_or-set_same (unwaited v t (intent_of v t)).thread_waits_for t (record { awaits = For i }) no_slot (rw (long (intent_of v t)) h))
+  set_same n h = (get_or-set_same (unwaited v t (intent_of v t)).thread_waits_for t (Some i) None (rw (long (intent_of v t)) h))
     where
-      long : (a : Awaits) → length (unwaited v t a).thread_waits_for ≡ 32
-      long Nothing = n
-      long (For j) = simp length-set n
+      long : (a : Option WaitIntent) → length (unwaited v t a).thread_waits_for ≡ 32
+      long None = n
+      long (Some j) = simp length-set n
 
   set_other : (a : ℕ) → (a ≡ t → ⊥) → intent_of (set_intent v t i) a ≡ intent_of v a
   unfolding set_intent clear
-  set_other a d = ap (λ (s : Slot). s.awaits) (get_or-set_other (unwaited v t (intent_of v t)).thread_waits_for t a (record { awaits = For i }) no_slot d ∙ go (intent_of v t))
+  set_other a d = (get_or-set_other (unwaited v t (intent_of v t)).thread_waits_for t a (Some i) None d ∙ go (intent_of v t))
     where
-      go : (b : Awaits) → get_or (unwaited v t b).thread_waits_for a no_slot ≡ get_or v.thread_waits_for a no_slot
-      go Nothing = refl
-      go (For j) = get_or-set_other v.thread_waits_for t a no_slot no_slot d
+      go : (b : Option WaitIntent) → get_or (unwaited v t b).thread_waits_for a None ≡ get_or v.thread_waits_for a None
+      go None = refl
+      go (Some j) = get_or-set_other v.thread_waits_for t a None None d
 
-  set_blocking : (c : List ℕ) (a : Awaits) → blocking c (set_intent v t i) a ≡ blocking c v a
+  set_blocking : (c : List ℕ) (a : Option WaitIntent) → blocking c (set_intent v t i) a ≡ blocking c v a
   unfolding set_intent clear
   set_blocking c a = blocking_same c (set_intent v t i) v (p (intent_of v t)) (q (intent_of v t)) a
     where
-      p : (b : Awaits) → (unwaited v t b).mutex_owners ≡ v.mutex_owners
-      p Nothing = refl
-      p (For j) = refl
+      p : (b : Option WaitIntent) → (unwaited v t b).mutex_owners ≡ v.mutex_owners
+      p None = refl
+      p (Some j) = refl
 
-      q : (b : Awaits) → (unwaited v t b).rwlock_writer ≡ v.rwlock_writer
-      q Nothing = refl
-      q (For j) = refl
+      q : (b : Option WaitIntent) → (unwaited v t b).rwlock_writer ≡ v.rwlock_writer
+      q None = refl
+      q (Some j) = refl
 
 -- ---- Registering where the edges of all other threads are their true waits
 
@@ -141,11 +139,11 @@ module _ (c : List ℕ) (v : Waits) (t : ℕ) (i : WaitIntent) (h : t < 32) (k :
 
   waits_other : (a b : ℕ) → (a ≡ t → ⊥) → waits_for c u a b ≡ waits_for c v a b
   unfolding waits_for
-  waits_other a b d = ap (λ (z : Awaits). among b (blocking c u z)) (set_other v t i a d) ∙ ap (among b) (set_blocking v t i c (intent_of v a))
+  waits_other a b d = ap (λ (z : Option WaitIntent). among b (blocking c u z)) (set_other v t i a d) ∙ ap (among b) (set_blocking v t i c (intent_of v a))
 
   waits_own : (b : ℕ) → waits_for c u t b ≡ among b (owners c u i)
   unfolding waits_for
-  waits_own b = ap (λ (z : Awaits). among b (blocking c u z)) (set_same v t i f.shaped.threads h)
+  waits_own b = ap (λ (z : Option WaitIntent). among b (blocking c u z)) (set_same v t i f.shaped.threads h)
 
   true_fan : (a b : ℕ) → True c u a b ↔ Fan E t (owners c u i) a b
   true_fan a b = (λ e. to e (ℕ_discrete a t), fro)
@@ -162,13 +160,13 @@ module _ (c : List ℕ) (v : Waits) (t : ℕ) (i : WaitIntent) (h : t < 32) (k :
   unfolding register
   registered = waits_same c (with_graph u (add_owners t u.wait_for_graph (owners c u i)).graph) u refl refl refl
 
-  found_ring : (p : List ℕ) → (register c v t i).found ≡ some p → Ring (True c (register c v t i).waits) p
+  found_ring : (p : List ℕ) → (register c v t i).found ≡ Some p → Ring (True c (register c v t i).waits) p
   unfolding register
   found_ring p e =
       ring_map (Fan E t (owners c u i)) (True c (register c v t i).waits) (λ a b z. registered a b ∙ (true_fan a b).1 z) p
       (register_ring t h (owners c u i) (owners_lt c u i) u.wait_for_graph uf.graph.sized p e).0
 
-  none_acyclic : (register c v t i).found ≡ none → Acyclic (True c (register c v t i).waits)
+  none_acyclic : (register c v t i).found ≡ None → Acyclic (True c (register c v t i).waits)
   unfolding register
   none_acyclic e =
       acyclic_within (True c (register c v t i).waits) (Fan E t (owners c u i)) (λ a b z. (true_fan a b).0 (sym (registered a b) ∙ z))
@@ -254,7 +252,7 @@ of_shared c w p e k =
 -- States that there is a report if and only if the true waits have a cycle and the threads of the path found
 -- share no lock that nobody reads.
 abbrev DecidesMutex : List ℕ → Option (List ℕ) → Judging → Type 0
-DecidesMutex c o a = (0 < length a.reports) ↔ (Cycle (True c a.waits) × ((p : List ℕ) → o ≡ some p → Shared c a.waits p → ⊥))
+DecidesMutex c o a = (0 < length a.reports) ↔ (Cycle (True c a.waits) × ((p : List ℕ) → o ≡ Some p → Shared c a.waits p → ⊥))
 
 module _ (c : List ℕ) (v : Waits) (t : ℕ) (h : t < 32) (f : Fine v) (x : ExactBut c v t) where
   decides_block : (i : WaitIntent) → i.lock_id < 64 → Decides c (block c v t i)
@@ -262,8 +260,8 @@ module _ (c : List ℕ) (v : Waits) (t : ℕ) (h : t < 32) (f : Fine v) (x : Exa
   decides_block i k = go (register c v t i).found refl
     where
       go : (o : Option (List ℕ)) → (register c v t i).found ≡ o → Decides c (judge_found c (register c v t i).waits o)
-      go none e = decides_none c (register c v t i).waits (none_acyclic c v t i h k f x e)
-      go (some p) e = decides_found c (register c v t i).waits p (found_ring c v t i h k f x p e)
+      go None e = decides_none c (register c v t i).waits (none_acyclic c v t i h k f x e)
+      go (Some p) e = decides_found c (register c v t i).waits p (found_ring c v t i h k f x p e)
 
   decides_mutex : (l : ℕ) → l < 64 → DecidesMutex c (register c v t (mutex_on l)).found (block_mutex c v t l)
   unfolding block_mutex
@@ -272,14 +270,14 @@ module _ (c : List ℕ) (v : Waits) (t : ℕ) (h : t < 32) (f : Fine v) (x : Exa
       w : Waits
       w = (register c v t (mutex_on l)).waits
 
-      pass : (p : List ℕ) (b : Bool) → passes c w p ≡ b → Ring (True c w) p → DecidesMutex c (some p) (cond b (validate c w p) (quiet w))
-      pass p true e i = subst (DecidesMutex c (some p)) (sym (validate_of c w p i))
-          (λ r. (ring_cycle (True c w) p i, λ q z y. of_shared c w p e (subst (Shared c w) (sym (some-injective p q z)) y)), λ z. lit< tt)
+      pass : (p : List ℕ) (b : Bool) → passes c w p ≡ b → Ring (True c w) p → DecidesMutex c (Some p) (cond b (validate c w p) (quiet w))
+      pass p true e i = subst (DecidesMutex c (Some p)) (sym (validate_of c w p i))
+          (λ r. (ring_cycle (True c w) p i, λ q z y. of_shared c w p e (subst (Shared c w) (sym (same_Some p q z)) y)), λ z. lit< tt)
       pass p false e i = (λ r. absurd (omega arith), λ z. absurd (z.1 p refl (shared_of c w p e)))
 
       go : (o : Option (List ℕ)) → (register c v t (mutex_on l)).found ≡ o → DecidesMutex c o (sieve_found c w o)
-      go none e = (λ r. absurd (omega arith), λ z. absurd (no_cycle (True c w) (none_acyclic c v t (mutex_on l) h k f x e) z.0))
-      go (some p) e = pass p (passes c w p) refl (found_ring c v t (mutex_on l) h k f x p e)
+      go None e = (λ r. absurd (omega arith), λ z. absurd (no_cycle (True c w) (none_acyclic c v t (mutex_on l) h k f x e) z.0))
+      go (Some p) e = pass p (passes c w p) refl (found_ring c v t (mutex_on l) h k f x p e)
 
   -- A writer that finds neither readers nor a writer waits for nobody.
   decides_write : (l : ℕ) → l < 64 → (free c v l ≡ true → Acyclic (True c v)) → Decides c (block_write c v t l)
@@ -302,17 +300,17 @@ exact_all x k h a b = go (dec_lt a 32)
     small : True x.rwlock_readers w a b → b < 32
     small e = below (intent_of w a) (among_in b (blocking x.rwlock_readers w (intent_of w a)) e)
       where
-        below : (i : Awaits) → In b (blocking x.rwlock_readers w i) → b < 32
-        below Nothing m = absurd m
-        below (For i) m = owners_lt x.rwlock_readers w i b m
+        below : (i : Option WaitIntent) → In b (blocking x.rwlock_readers w i) → b < 32
+        below None m = absurd m
+        below (Some i) m = owners_lt x.rwlock_readers w i b m
 
     go : Dec (a < 32) → Edge w.wait_for_graph.edges a b ↔ Truly x a b
     go (yes i) = (λ e. (h a b i (bit_below 32 (row w.wait_for_graph.edges a) b (k.waits.graph.sized.narrow a) e)).0 e, λ e. (h a b i (small e)).1 e)
     go (no i) =
         let e₁ : row w.wait_for_graph.edges a ≡ 0 = get_or-eq_default w.wait_for_graph.edges 0 {n = a} (rw k.waits.graph.sized.long (omega arith)) in
-        let e₂ : get_or w.thread_waits_for a no_slot ≡ no_slot = get_or-eq_default w.thread_waits_for no_slot {n = a} (rw k.waits.shaped.threads (omega arith)) in (
+        let e₂ : get_or w.thread_waits_for a None ≡ None = get_or-eq_default w.thread_waits_for None {n = a} (rw k.waits.shaped.threads (omega arith)) in (
           λ e. absurd (omega (arith, bit_zero b, sym (ap (λ (m : ℕ). bit m b) e₁) ∙ e)),
-          λ e. absurd (false≢true (sym (ap (λ (s : Slot). among b (blocking x.rwlock_readers w s.awaits)) e₂) ∙ e)),
+          λ e. absurd (false≢true (sym (ap (λ (s : Option WaitIntent). among b (blocking x.rwlock_readers w s)) e₂) ∙ e)),
         )
 
 -- If only t awaits the lock l, a change of its owner or writer changes the waits of t alone.
@@ -320,11 +318,11 @@ but_hint : (c : List ℕ) (v w : Waits) (t l : ℕ) → (v.thread_waits_for ≡ 
     → ((i : WaitIntent) → (i.lock_id ≡ l → ⊥) → owners c v i ≡ owners c w i) → ((a : ℕ) → names (intent_of w a) l ≡ true → a ≡ t)
     → (a b : ℕ) → (a ≡ t → ⊥) → waits_for c v a b ≡ waits_for c w a b
 unfolding waits_for
-but_hint c v w t l s o n a b d = ap (λ (z : List Slot). among b (blocking c v (get_or z a no_slot).awaits)) s ∙ ap (among b) (go (intent_of w a) refl)
+but_hint c v w t l s o n a b d = ap (λ (z : List (Option WaitIntent)). among b (blocking c v (get_or z a None))) s ∙ ap (among b) (go (intent_of w a) refl)
   where
-    go : (i : Awaits) → intent_of w a ≡ i → blocking c v i ≡ blocking c w i
-    go Nothing e = refl
-    go (For i) e = o i (λ q. d (n a (ap (λ z. names z l) e ∙ eq-eqb _ _ q)))
+    go : (i : Option WaitIntent) → intent_of w a ≡ i → blocking c v i ≡ blocking c w i
+    go None e = refl
+    go (Some i) e = o i (λ q. d (n a (ap (λ z. names z l) e ∙ eq-eqb _ _ q)))
 
 module _ (x : Tables) (k : Kept x) (exact : Exact x) (t l : ℕ) where
   exact_plain : ExactBut x.rwlock_readers x.waits t
@@ -361,7 +359,7 @@ module _ (x : Tables) (room t l : ℕ) (k : Kept x) (exact : Exact x) where
   -- In waits v a blocked mutex attempt is reported as the demand asks.
   mutex_decided : (v : Waits) → t < 32 → l < 64 → Fine v → ExactBut x.rwlock_readers v t
       → (0 < length (acquire_slow x v t l).reports)
-      ↔ (Cycle (Truly (acquire_slow x v t l).tables) × ((p : List ℕ) × ((register x.rwlock_readers v t (mutex_on l)).found ≡ some p) × Shared x.rwlock_readers (acquire_slow x v t l).tables.waits p → ⊥))
+      ↔ (Cycle (Truly (acquire_slow x v t l).tables) × ((p : List ℕ) × ((register x.rwlock_readers v t (mutex_on l)).found ≡ Some p) × Shared x.rwlock_readers (acquire_slow x v t l).tables.waits p → ⊥))
   unfolding acquire_slow
   mutex_decided v h i f e =
       let m = decides_mutex x.rwlock_readers v t h f e l i in

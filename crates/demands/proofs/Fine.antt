@@ -3,7 +3,7 @@ use mathlib.Core.Path.{◌≡◌, refl, sym, ap, ◌∙◌}
 use mathlib.Core.Logic.{inl, inr}
 use mathlib.Core.List.{List, [], ◌∷◌, foldl}
 use mathlib.Core.Bool.{true, false≢true}
-use mathlib.Core.Option.{Option, none, some}
+use Rattle.std.specs.Prelude.{Option, None, Some}
 use Prim.Native.Nat.{ℕ, zero, suc, ◌<◌, ◌≤◌}
 use native.Mathlib.Omega.{arith}
 use native.Mathlib.Decide.{ℕ_discrete}
@@ -20,15 +20,12 @@ use Rattle.graph.specs.Graph.{put, cut, add_owners, clear_wait_edges, Adding, fi
 use Rattle.graph.specs.declared.wait_for_graph.WaitForGraph.{WaitForGraph}
 use Rattle.graph.proofs.Good.{At, at_put, at_cut, emptied_row, good_remove_edges, good_clear, good_empty}
 use Rattle.graph.proofs.Register.{Owned, register_good, register_ring}
-use Rattle.waits.specs.Tables.{no_slot, intent_of, waiters_of, with_graph, with_intents, own, write, hold, unhold, empty}
+use Rattle.waits.specs.Tables.{intent_of, waiters_of, with_graph, with_intents, own, write, hold, unhold, empty}
 use Rattle.waits.specs.Owners.{owners}
 use Rattle.waits.specs.Waiting.{Linking, unwaited, clear, set_intent, register, renew_for, renew, renew_start, renew_all, refresh, refresh_next, refresh_locks}
 use Rattle.waits.specs.Validate.{names}
 use Rattle.waits.specs.declared.tables.Waits.{Waits}
-use Rattle.waits.specs.declared.intent.Slot.{Slot}
 use Rattle.waits.specs.declared.intent.WaitIntent.{WaitIntent}
-use Rattle.waits.specs.declared.intent.Awaits.{Awaits}
-use Rattle.waits.specs.declared.intent.Awaits.TheVariants.{Nothing, For}
 use Rattle.waits.proofs.Laws.{lock_of_lem, range_empty, owners_lt}
 use Rattle.detector.specs.RwLock.{loosen}
 use Rattle.demands.specs.Invariants.{Fine}
@@ -68,8 +65,8 @@ fine_emptied w l h f =
 
 -- ---- Clear
 
-module _ (w : Waits) (t : ℕ) (i : WaitIntent) (e : intent_of w t ≡ For i) (f : Fine w) where
-  unwaited_named : (l u : ℕ) → bit (row (cut w.lock_waiters i.lock_id t) l) u ≡ 1 → names (get_or (set w.thread_waits_for t no_slot) u no_slot).awaits l ≡ true
+module _ (w : Waits) (t : ℕ) (i : WaitIntent) (e : intent_of w t ≡ Some i) (f : Fine w) where
+  unwaited_named : (l u : ℕ) → bit (row (cut w.lock_waiters i.lock_id t) l) u ≡ 1 → names (get_or (set w.thread_waits_for t None) u None) l ≡ true
   unwaited_named l u h = go (ℕ_discrete u t) (ℕ_discrete l i.lock_id)
     where
       a : At w.lock_waiters (cut w.lock_waiters i.lock_id t) i.lock_id t 0
@@ -78,20 +75,20 @@ module _ (w : Waits) (t : ℕ) (i : WaitIntent) (e : intent_of w t ≡ For i) (f
       before : ((l ≡ i.lock_id) × (u ≡ t) → ⊥) → names (intent_of w u) l ≡ true
       before n = f.named u l (bit_has _ _ (sym (a.else l u n) ∙ h))
 
-      go : Dec (u ≡ t) → Dec (l ≡ i.lock_id) → names (get_or (set w.thread_waits_for t no_slot) u no_slot).awaits l ≡ true
+      go : Dec (u ≡ t) → Dec (l ≡ i.lock_id) → names (get_or (set w.thread_waits_for t None) u None) l ≡ true
       go (yes p) (yes q) = absurd (omega (arith, a.there, rw (p, q) at h))
       go (yes p) (no q) =
-          let z : names (For i) l ≡ true = ap (λ x. names x l) (sym e) ∙ ap (λ x. names (intent_of w x) l) (sym p) ∙ before (λ k. q k.0) in
+          let z : names (Some i) l ≡ true = ap (λ x. names x l) (sym e) ∙ ap (λ x. names (intent_of w x) l) (sym p) ∙ before (λ k. q k.0) in
           absurd (q (sym (eqb-true i.lock_id l z)))
-      go (no p) q = rw (get_or-set_other w.thread_waits_for t u no_slot no_slot p) (before (λ k. p k.1))
+      go (no p) q = rw (get_or-set_other w.thread_waits_for t u None None p) (before (λ k. p k.1))
 
-fine_unwaited : (w : Waits) (t : ℕ) (a : Awaits) → intent_of w t ≡ a → Fine w → Fine (unwaited w t a)
-fine_unwaited w t Nothing e f = f
-fine_unwaited w t (For i) e f = fine_of (held_unwaited w t (For i) (held f)) f.graph (λ u l h. unwaited_named w t i e f l u (has_bit _ _ h))
+fine_unwaited : (w : Waits) (t : ℕ) (a : Option WaitIntent) → intent_of w t ≡ a → Fine w → Fine (unwaited w t a)
+fine_unwaited w t None e f = f
+fine_unwaited w t (Some i) e f = fine_of (held_unwaited w t (Some i) (held f)) f.graph (λ u l h. unwaited_named w t i e f l u (has_bit _ _ h))
 
-pub unwaited_graph : (w : Waits) (t : ℕ) (a : Awaits) → (unwaited w t a).wait_for_graph ≡ w.wait_for_graph
-unwaited_graph w t Nothing = refl
-unwaited_graph w t (For i) = refl
+pub unwaited_graph : (w : Waits) (t : ℕ) (a : Option WaitIntent) → (unwaited w t a).wait_for_graph ≡ w.wait_for_graph
+unwaited_graph w t None = refl
+unwaited_graph w t (Some i) = refl
 
 pub fine_clear : (w : Waits) (t : ℕ) → t < 32 → Fine w → Fine (clear w t)
 unfolding clear
@@ -100,13 +97,13 @@ fine_clear w t h f =
     fine_graph (unwaited w t (intent_of w t)) _ (good_clear (unwaited w t (intent_of w t)).wait_for_graph t h u.graph) u
 
 -- A thread that is cleared has no intent.
-pub cleared_none : (w : Waits) (t : ℕ) → t < 32 → Fine w → intent_of (clear w t) t ≡ Nothing
+pub cleared_none : (w : Waits) (t : ℕ) → t < 32 → Fine w → intent_of (clear w t) t ≡ None
 unfolding clear
 cleared_none w t h f = go (intent_of w t) refl
   where
-    go : (a : Awaits) → intent_of w t ≡ a → intent_of (unwaited w t a) t ≡ Nothing
-    go Nothing e = e
-    go (For i) e = ap (λ (s : Slot). s.awaits) (get_or-set_same w.thread_waits_for t no_slot no_slot (rw f.shaped.threads h))
+    go : (a : Option WaitIntent) → intent_of w t ≡ a → intent_of (unwaited w t a) t ≡ None
+    go None e = e
+    go (Some i) e = (get_or-set_same w.thread_waits_for t None None (rw f.shaped.threads h))
 
 -- ---- Register
 
@@ -117,7 +114,7 @@ fine_set w t i h k f = fine_of (held_set w t i h k (held f)) c.graph (λ v l b. 
     c : Fine (clear w t)
     c = fine_clear w t h f
 
-    named_after : (l v : ℕ) → bit (row (put (clear w t).lock_waiters i.lock_id t) l) v ≡ 1 → names (get_or (set (clear w t).thread_waits_for t (record { awaits = For i })) v no_slot).awaits l ≡ true
+    named_after : (l v : ℕ) → bit (row (put (clear w t).lock_waiters i.lock_id t) l) v ≡ 1 → names (get_or (set (clear w t).thread_waits_for t (Some i)) v None) l ≡ true
     named_after l v b = go (ℕ_discrete v t) (ℕ_discrete l i.lock_id)
       where
         a : At (clear w t).lock_waiters (put (clear w t).lock_waiters i.lock_id t) i.lock_id t 1
@@ -126,21 +123,21 @@ fine_set w t i h k f = fine_of (held_set w t i h k (held f)) c.graph (λ v l b. 
         before : ((l ≡ i.lock_id) × (v ≡ t) → ⊥) → names (intent_of (clear w t) v) l ≡ true
         before n = c.named v l (bit_has _ _ (sym (a.else l v n) ∙ b))
 
-        go : Dec (v ≡ t) → Dec (l ≡ i.lock_id) → names (get_or (set (clear w t).thread_waits_for t (record { awaits = For i })) v no_slot).awaits l ≡ true
+        go : Dec (v ≡ t) → Dec (l ≡ i.lock_id) → names (get_or (set (clear w t).thread_waits_for t (Some i)) v None) l ≡ true
         go (yes p) (yes q) =
-            rw (p, get_or-set_same (clear w t).thread_waits_for t (record { awaits = For i }) no_slot (rw c.shaped.threads h)) (eq-eqb _ _ (sym q))
+            rw (p, get_or-set_same (clear w t).thread_waits_for t (Some i) None (rw c.shaped.threads h)) (eq-eqb _ _ (sym q))
         go (yes p) (no q) =
             absurd (false≢true (sym (ap (λ x. names x l) (cleared_none w t h f)) ∙ ap (λ x. names (intent_of (clear w t) x) l) (sym p) ∙ before (λ z. q z.0)))
-        go (no p) q = rw (get_or-set_other (clear w t).thread_waits_for t v (record { awaits = For i }) no_slot p) (before (λ z. p z.1))
+        go (no p) q = rw (get_or-set_other (clear w t).thread_waits_for t v (Some i) None p) (before (λ z. p z.1))
 
 -- States that no thread stands twice in a path that was found.
 abbrev pub Neat : Option (List ℕ) → Type 0
-Neat none = Unit
-Neat (some p) = Distinct p
+Neat None = Unit
+Neat (Some p) = Distinct p
 
 neat_first : (p q : Option (List ℕ)) → Neat p → Neat q → Neat (first p q)
-neat_first none q h j = j
-neat_first (some p) q h j = h
+neat_first None q h j = j
+neat_first (Some p) q h j = h
 
 -- States what a rule hands on: fine waits, and a path in which no thread stands twice.
 pub record Stepped (s : Linking) : Type 0 where
@@ -156,8 +153,8 @@ grows_owners : (t : ℕ) (os : List ℕ) (g : WaitForGraph) → t < 32 → Owned
 grows_owners t os g h b k = record { good = register_good t h os b g k; neat = go (add_owners t g os).found refl }
   where
     go : (o : Option (List ℕ)) → (add_owners t g os).found ≡ o → Neat o
-    go none e = tt
-    go (some p) e = (register_ring t h os b g k.sized p e).1
+    go None e = tt
+    go (Some p) e = (register_ring t h os b g k.sized p e).1
 
 pub stepped_register : (c : List ℕ) (w : Waits) (t : ℕ) (i : WaitIntent) → t < 32 → i.lock_id < 64 → Fine w → Stepped (register c w t i)
 unfolding register
@@ -172,9 +169,9 @@ grows_renew : (c : List ℕ) (w : Waits) (k : Adding) (t : ℕ) → t < 32 → G
 unfolding renew
 grows_renew c w k t h g = go (intent_of w t)
   where
-    go : (a : Awaits) → Grows (renew_for c w k t a)
-    go Nothing = g
-    go (For i) =
+    go : (a : Option WaitIntent) → Grows (renew_for c w k t a)
+    go None = g
+    go (Some i) =
         let r = grows_owners t (owners c w i) (clear_wait_edges k.graph t) h (owners_lt c w i) (good_clear k.graph t h g.good) in
         record { good = r.good; neat = neat_first k.found _ g.neat r.neat }
 
@@ -197,7 +194,7 @@ stepped_next c (l ∷ ls) s k =
 
 pub stepped_locks : (c : List ℕ) (w : Waits) (ls : List ℕ) → Fine w → Stepped (refresh_locks c w ls)
 unfolding refresh_locks
-stepped_locks c w ls f = stepped_next c ls (record { waits = w; found = none }) (record { fine = f; neat = tt })
+stepped_locks c w ls f = stepped_next c ls (record { waits = w; found = None }) (record { fine = f; neat = tt })
 
 -- ---- The empty tables
 

@@ -1,4 +1,5 @@
 -- What the rules of waiting keep of any waits that the types can hold and that are in range, reached or not.
+use Rattle.std.specs.Prelude.{Option, None, Some}
 use mathlib.Core.Path.{◌≡◌, refl}
 use mathlib.Core.Logic.{inl, inr}
 use mathlib.Core.List.{List, [], ◌∷◌, foldl}
@@ -21,10 +22,7 @@ use Rattle.waits.specs.Tables.{intent_of, waiters_of, holds_of, with_graph, with
 use Rattle.waits.specs.Owners.{owners}
 use Rattle.waits.specs.Waiting.{unwaited, clear, set_intent, register, renew_for, renew, renew_start, renew_all, refresh}
 use Rattle.waits.specs.declared.tables.Waits.{Waits}
-use Rattle.waits.specs.declared.intent.Slot.{Slot}
 use Rattle.waits.specs.declared.intent.WaitIntent.{WaitIntent}
-use Rattle.waits.specs.declared.intent.Awaits.{Awaits}
-use Rattle.waits.specs.declared.intent.Awaits.TheVariants.{Nothing, For}
 use Rattle.waits.proofs.Laws.{range_graph, range_own, range_write, range_unwaited, range_set, owners_lt}
 use Rattle.detector.specs.RwLock.{loosen}
 use Rattle.demands.specs.Invariants.{Shaped}
@@ -83,7 +81,7 @@ pub held_unhold : (w : Waits) (t l : ℕ) → Held w → Held (unhold w t l)
 held_unhold w t l f = held_holds w t _ (omega (arith, without_le (holds_of w t) l, f.shaped.held t)) f
 
 -- The intents s and the waiters v take the place of those of w.
-pub held_intents : (w : Waits) (s : List Slot) (v : List ℕ) → InRange (with_intents w s v) → length s ≡ 32 → length v ≡ 64 → ((l : ℕ) → row v l < 2 ^ 32) → Held w → Held (with_intents w s v)
+pub held_intents : (w : Waits) (s : List (Option WaitIntent)) (v : List ℕ) → InRange (with_intents w s v) → length s ≡ 32 → length v ≡ 64 → ((l : ℕ) → row v l < 2 ^ 32) → Held w → Held (with_intents w s v)
 held_intents w s v r a b c f =
     record {
       graph = f.graph;
@@ -99,10 +97,10 @@ held_emptied w l f =
 
 -- ---- Clear, register, refresh
 
-pub held_unwaited : (w : Waits) (t : ℕ) (a : Awaits) → Held w → Held (unwaited w t a)
-held_unwaited w t Nothing f = f
-held_unwaited w t (For i) f =
-    held_intents w _ _ (range_unwaited w t (For i) f.range) (simp length-set f.shaped.threads) (simp length-set f.shaped.locks)
+pub held_unwaited : (w : Waits) (t : ℕ) (a : Option WaitIntent) → Held w → Held (unwaited w t a)
+held_unwaited w t None f = f
+held_unwaited w t (Some i) f =
+    held_intents w _ _ (range_unwaited w t (Some i) f.range) (simp length-set f.shaped.threads) (simp length-set f.shaped.locks)
     (set_all (λ (m : ℕ). m < 2 ^ 32) w.lock_waiters i.lock_id _ 0 (omega (arith, without_le (waiters_of w i.lock_id) t, f.shaped.few i.lock_id)) f.shaped.few) f
 
 pub held_clear : (w : Waits) (t : ℕ) → Held w → Held (clear w t)
@@ -128,9 +126,9 @@ sized_renew : (c : List ℕ) (w : Waits) (k : Adding) (t : ℕ) → t < 32 → S
 unfolding renew
 sized_renew c w k t h s = go (intent_of w t)
   where
-    go : (a : Awaits) → Sized (renew_for c w k t a).graph
-    go Nothing = s
-    go (For i) = register_sized t h (owners c w i) (owners_lt c w i) (clear_wait_edges k.graph t) (sized_clear k.graph t s)
+    go : (a : Option WaitIntent) → Sized (renew_for c w k t a).graph
+    go None = s
+    go (Some i) = register_sized t h (owners c w i) (owners_lt c w i) (clear_wait_edges k.graph t) (sized_clear k.graph t s)
 
 sized_all : (c : List ℕ) (w : Waits) (ts : List ℕ) (k : Adding) → ((t : ℕ) → In t ts → t < 32) → Sized k.graph → Sized (foldl (renew c w) k ts).graph
 sized_all c w [] k h s = s

@@ -2,7 +2,7 @@
 use mathlib.Core.Path.{◌≡◌, refl}
 use mathlib.Core.List.{List, [], ◌∷◌, ◌++◌, foldl}
 use mathlib.Core.Bool.{Bool, true, false, cond}
-use mathlib.Core.Option.{Option, none, some}
+use Rattle.std.specs.Prelude.{Option, None, Some}
 use Prim.Native.Nat.{ℕ, suc, ◌+◌, ◌-◌, ◌<◌, ◌≤◌, ◌^◌}
 use native.Mathlib.Omega.{arith}
 use lib.Dec.{eqb, ltb, lit≤}
@@ -150,8 +150,8 @@ module _ {P : Waits → Type 0} (rules : Rules P) where
 
   checked_keeps : (c : List ℕ) (w : Waits) (o : Option (List ℕ)) → P w → P (checked c w o).waits
   unfolding checked
-  checked_keeps c w none f = f
-  checked_keeps c w (some p) f = go (valid c w p)
+  checked_keeps c w None f = f
+  checked_keeps c w (Some p) f = go (valid c w p)
     where
       go : (b : Bool) → P (cond b (reporting w p) (quiet w)).waits
       go true = f
@@ -166,14 +166,14 @@ module _ {P : Waits → Type 0} (rules : Rules P) where
 
       go : (b : Bool) → P (cond b (reporting w p) (checked c s.waits s.found)).waits
       go true = f
-      go false = checked_keeps c s.waits s.found (locks_keeps c (awaited_locks w p) (record { waits = w; found = none }) f)
+      go false = checked_keeps c s.waits s.found (locks_keeps c (awaited_locks w p) (record { waits = w; found = None }) f)
 
   judge_keeps : (c : List ℕ) (s : Linking) → P s.waits → P (judge c s).waits
   judge_keeps c s f = go s.found
     where
       go : (o : Option (List ℕ)) → P (judge_found c s.waits o).waits
-      go none = f
-      go (some p) = validate_keeps c s.waits p f
+      go None = f
+      go (Some p) = validate_keeps c s.waits p f
 
   sieve_keeps : (c : List ℕ) (s : Linking) → P s.waits → P (sieve c s).waits
   sieve_keeps c s f = go s.found
@@ -183,8 +183,8 @@ module _ {P : Waits → Type 0} (rules : Rules P) where
       pass p false = f
 
       go : (o : Option (List ℕ)) → P (sieve_found c s.waits o).waits
-      go none = f
-      go (some p) = pass p (passes c s.waits p)
+      go None = f
+      go (Some p) = pass p (passes c s.waits p)
 
   settle_keeps : (c : List ℕ) (w : Waits) (l : ℕ) → P w → P (settle c w l).waits
   unfolding settle

@@ -2,7 +2,7 @@
 use mathlib.Core.Path.{◌≡◌, refl, sym, ap}
 use mathlib.Core.List.{List, [], ◌∷◌, ◌++◌, map}
 use mathlib.Core.Bool.{Bool, true, false, cond, false≢true}
-use mathlib.Core.Option.{Option, none, some}
+use Rattle.std.specs.Prelude.{Option, None, Some}
 use Prim.Native.Nat.{ℕ, ◌<◌}
 use Rattle.sets.specs.Lists.{In, Distinct}
 use Rattle.sets.proofs.Lists.{among_in, both}
@@ -16,8 +16,6 @@ use Rattle.waits.specs.Validate.{around, valid, awaited_locks, checked, validate
 use Rattle.waits.specs.Attempt.{judge_found, judge, sieve_found, sieve, settle, block, block_mutex, mutex_on}
 use Rattle.waits.specs.declared.tables.Waits.{Waits}
 use Rattle.waits.specs.declared.intent.WaitIntent.{WaitIntent}
-use Rattle.waits.specs.declared.intent.Awaits.{Awaits}
-use Rattle.waits.specs.declared.intent.Awaits.TheVariants.{Nothing, For}
 use Rattle.demands.specs.Invariants.{Fine}
 use Rattle.demands.specs.Demand3.{Blocks, TrueCycle, Each}
 use Rattle.demands.proofs.Fine.{Neat, Stepped, stepped_register, stepped_refresh, stepped_locks}
@@ -38,9 +36,9 @@ pub waits_blocks : (c : List ℕ) (w : Waits) (a b : ℕ) → waits_for c w a b 
 unfolding waits_for
 waits_blocks c w a b e = go (intent_of w a) refl (among_in b _ e)
   where
-    go : (i : Awaits) → intent_of w a ≡ i → In b (blocking c w i) → Blocks c w (entry_of w a) b
-    go Nothing q m = absurd m
-    go (For i) q m = record { intent = i; awaits = q; beside = sym (ap lock_of q); owns = m }
+    go : (i : Option WaitIntent) → intent_of w a ≡ i → In b (blocking c w i) → Blocks c w (entry_of w a) b
+    go None q m = absurd m
+    go (Some i) q m = record { intent = i; awaits = q; beside = sym (ap lock_of q); owns = m }
 
 -- States that an entry's wait is blocked by the thread of the next entry.
 abbrev Next : List ℕ → Waits → Entry → Entry → Type 0
@@ -84,8 +82,8 @@ fair_reporting c w p f d e = record { fine = f; each = (record { cycle = valid_t
 -- Checking a path once more is fair, and so is validating one.
 fair_checked : (c : List ℕ) (w : Waits) (o : Option (List ℕ)) → Fine w → Neat o → Fair c (checked c w o)
 unfolding checked
-fair_checked c w none f n = fair_quiet c w f
-fair_checked c w (some p) f n = go (valid c w p) refl
+fair_checked c w None f n = fair_quiet c w f
+fair_checked c w (Some p) f n = go (valid c w p) refl
   where
     go : (b : Bool) → valid c w p ≡ b → Fair c (cond b (reporting w p) (quiet w))
     go true e = fair_reporting c w p f n e
@@ -110,8 +108,8 @@ fair_judge : (c : List ℕ) (s : Linking) → Stepped s → Fair c (judge c s)
 fair_judge c s r = go s.found r.neat
   where
     go : (o : Option (List ℕ)) → Neat o → Fair c (judge_found c s.waits o)
-    go none n = fair_quiet c s.waits r.fine
-    go (some p) n = fair_validate c s.waits p r.fine n
+    go None n = fair_quiet c s.waits r.fine
+    go (Some p) n = fair_validate c s.waits p r.fine n
 
 fair_sieve : (c : List ℕ) (s : Linking) → Stepped s → Fair c (sieve c s)
 fair_sieve c s r = go s.found r.neat
@@ -121,8 +119,8 @@ fair_sieve c s r = go s.found r.neat
     pass p false n = fair_quiet c s.waits r.fine
 
     go : (o : Option (List ℕ)) → Neat o → Fair c (sieve_found c s.waits o)
-    go none n = fair_quiet c s.waits r.fine
-    go (some p) n = pass p (passes c s.waits p) n
+    go None n = fair_quiet c s.waits r.fine
+    go (Some p) n = pass p (passes c s.waits p) n
 
 -- The judgements of a lock acquired, of a blocked attempt, and of a blocked mutex attempt are fair.
 pub fair_settle : (c : List ℕ) (w : Waits) (l : ℕ) → Fine w → Fair c (settle c w l)

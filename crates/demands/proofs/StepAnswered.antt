@@ -18,12 +18,15 @@ use Rattle.detector.specs.declared.event.Event.{Event}
 use Rattle.detector.specs.declared.state.Detector.{Detector}
 use Rattle.detector.specs.declared.state.Queue.{Queue}
 use Rattle.detector.specs.declared.state.Pair.{Pair}
-use Rattle.detector.specs.declared.reply.Stepped.{Stepped}
-use Rattle.detector.specs.declared.reply.Reply.TheVariants.{Reports, Refused}
+use Rattle.std.specs.Prelude.{Ok, Err}
+use Rattle.detector.specs.Numbered.{numbered}
+use Rattle.demands.specs.Driven.{Stepped}
+use Rattle.demands.proofs.Replying.{number_numbered}
 use Rattle.detector.proofs.Validity.{Shaped, tested_valid}
 use Rattle.detector.proofs.Numbers.{queue_at_lem, queue_length}
 use Rattle.detector.proofs.Queues.{pairs_none}
-use Rattle.detector.proofs.Serving.{refuse, tested, untested}
+use Rattle.detector.proofs.Serving.{refuse, renumber, tested, untested}
+use Rattle.detector.proofs.Numbers.{refusal_known}
 use Rattle.demands.specs.Invariants.{Seated, KeptWith}
 use Rattle.demands.specs.Driven.{Starts}
 use Rattle.detector.specs.Typed.{Typed}
@@ -192,24 +195,32 @@ served_held d ev n y z = go (valid_test d) refl
 
 -- States that there is a result with the refusal n, or 0 for none, in a state that the types can hold.
 abbrev Result : ℕ → Detector → Event → List ℕ → Type 0
-Result n d ev b = (r : Stepped) × (e : List ℕ) × Replies n d ev r b e × Typed r.detector
+Result n d ev b = (r : Stepped) × (e : List ℕ) × Replies n d ev r.detector r.reply b e × Typed r.detector
 
-refused_result : (n : ℕ) (d : Detector) (ev : Event) (b : List ℕ) → Typed d → 0 < n → Result n d ev b
-refused_result n d ev b y h = (record { detector = d; reply = Refused n }, b, refuse n d ev b h, y)
+refused_result : (n : ℕ) (d : Detector) (ev : Event) (b : List ℕ) → Typed d → 0 < n → n ≤ 8 → Result n d ev b
+refused_result n d ev b y h m = (record { detector = d; reply = Err (numbered n) }, b, renumber (number_numbered n h m) (refuse d ev (numbered n) b), y)
 
 served_result : (d : Detector) (ev : Event) (b : List ℕ) → KeptWith Held (apply ev (tables d)).tables → Result 0 d ev b
 served_result d ev b k =
     let a : Effect = apply ev (tables d) in
     let v = valid_state a.tables k in (
-      record { detector = state_of a.tables; reply = Reports (length a.reports) },
+      record { detector = state_of a.tables; reply = Ok (length a.reports) },
       laid b 0 (written a.reports),
       record { refused = λ z. absurd (omega arith); served = λ z. (refl, record { state = means a.tables; count = refl; bytes = refl; valid = v }) },
       typed_state (state_of a.tables) v (subst (KeptWith Held) (sym (means a.tables)) k),
     )
+
+-- No refusal has a number above 8.
+refusal_most : (d : Detector) (n : ℕ) (ev : Event) → refusal_of d n ev ≤ 8
+refusal_most d n ev = go (valid_test d) refl
+  where
+    go : (b : Bool) → valid_test d ≡ b → refusal_of d n ev ≤ 8
+    go true q = omega (arith, tested d n ev q, (refusal_known (tables d) n ev).most)
+    go false q = omega (arith, untested d n ev q)
 
 pub step_answered : StepAnswered
 step_answered d k y = go (refusal_of d (length k.lent) k.event) refl
   where
     go : (n : ℕ) → refusal_of d (length k.lent) k.event ≡ n → Result (refusal_of d (length k.lent) k.event) d k.event k.lent
     go zero z = rw z (served_result d k.event k.lent (served_held d k.event (length k.lent) y z))
-    go (suc n) z = refused_result _ d k.event k.lent y (omega (arith, z))
+    go (suc n) z = refused_result _ d k.event k.lent y (omega (arith, z)) (refusal_most d (length k.lent) k.event)

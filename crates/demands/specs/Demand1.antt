@@ -2,18 +2,18 @@
 -- limits (docs/RULES.md) is refused with the number of the refusal, and leaves the state and the report buffer
 -- as they were. This file is about events; script texts are in crate `transcript`, specs/Calls.antt.
 use Rattle.std.specs.Prelude.{◌≡◌, List, ℕ, ◌<◌, length}
-use Rattle.detector.specs.Promises.{refusal_of, refused_by, Steps}
+use Rattle.detector.specs.Numbered.{refused_by}
+use Rattle.detector.specs.Promises.{refusal_of, Steps}
 use Rattle.detector.specs.declared.event.Event.{Event}
 use Rattle.detector.specs.declared.state.Detector.{Detector}
-use Rattle.detector.specs.declared.reply.Stepped.{Stepped}
-use Rattle.demands.specs.Driven.{Call, Back, Driven, Starts}
+use Rattle.demands.specs.Driven.{Call, Stepped, Back, Driven, Starts}
 use Rattle.detector.specs.Typed.{Typed}
 
 -- AN ANSWER AND AN END (`step_answered`): from any state that the types can hold, valid or not, any event and buffer
 -- have a result that keeps the promise of a step, in a state that the types can hold. A record with cells beyond its
 -- type could pass the tests and not be served; `typed` (crate `detector`, src/types.rt) rules it out for the code.
 abbrev pub StepAnswered : Type 0
-StepAnswered = (d : Detector) (k : Call) → Typed d → (r : Stepped) × (e : List ℕ) × Steps d k.event r k.lent e × Typed r.detector
+StepAnswered = (d : Detector) (k : Call) → Typed d → (r : Stepped) × (e : List ℕ) × Steps d k.event r.detector r.reply k.lent e × Typed r.detector
 
 -- So any calls lead on, with a result each (`all_answered`).
 abbrev pub AllAnswered : Type 0
@@ -35,4 +35,4 @@ pub record Refuses (d : Detector) (ev : Event) (r : Stepped) (b e : List ℕ) : 
 
 -- States this of every result that keeps the promise of a step.
 abbrev pub RefusedByNumber : Type 0
-RefusedByNumber = (d : Detector) (ev : Event) (r : Stepped) (b e : List ℕ) → Steps d ev r b e → Refuses d ev r b e
+RefusedByNumber = (d : Detector) (ev : Event) (r : Stepped) (b e : List ℕ) → Steps d ev r.detector r.reply b e → Refuses d ev r b e

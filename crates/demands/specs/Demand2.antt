@@ -6,13 +6,13 @@ use Rattle.waits.specs.Report.{written}
 use Rattle.waits.specs.Promises.{laid}
 use Rattle.detector.specs.Tables.{Tables, empty}
 use Rattle.detector.specs.State.{tables, Valid}
-use Rattle.detector.specs.Promises.{refused_by, Steps}
+use Rattle.detector.specs.Numbered.{refused_by}
+use Rattle.detector.specs.Promises.{Steps}
 use Rattle.detector.specs.declared.event.Event.{Event}
 use Rattle.detector.specs.declared.state.Detector.{Detector}
-use Rattle.detector.specs.declared.reply.Stepped.{Stepped}
 use Rattle.detector.specs.Effects.{effect, replied}
 use Rattle.demands.specs.Reached.{Reached}
-use Rattle.demands.specs.Driven.{Call, Back, Driven, Starts}
+use Rattle.demands.specs.Driven.{Call, Stepped, Back, Driven, Starts}
 use Rattle.detector.specs.Typed.{Typed}
 
 -- THE RULES' RUN over the same calls. Returns what a call gives back in tables x: the reply, and every byte of
@@ -67,4 +67,4 @@ Coincide =
 -- with any event and buffer, two results are the same. Without `Typed` a 17th queue could hold anything after its end.
 abbrev pub StepsCoincide : Type 0
 StepsCoincide =
-    (d : Detector) (ev : Event) (r q : Stepped) (b e f : List ℕ) → Typed d → Steps d ev r b e → Steps d ev q b f → (r ≡ q) × (e ≡ f)
+    (d : Detector) (ev : Event) (r q : Stepped) (b e f : List ℕ) → Typed d → Steps d ev r.detector r.reply b e → Steps d ev q.detector q.reply b f → (r ≡ q) × (e ≡ f)

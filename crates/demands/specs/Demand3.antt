@@ -2,7 +2,7 @@
 -- threads are all different, and each awaits the lock that stands with it in the report, of which the next
 -- thread, or for the last thread the first, is an owner that blocks this wait.
 use Rattle.std.specs.Prelude.{◌≡◌, ◌⊎◌, ◌↔◌, List, [], ◌∷◌, map, true, ℕ, ◌<◌, length, take}
-use Rattle.std.proofs.Math.Option.{Option, some}
+use Rattle.std.specs.Prelude.{Option, None, Some}
 use Rattle.sets.specs.Limits.{THREADS, LOCKS}
 use Rattle.sets.specs.Lists.{In, Distinct}
 use Rattle.sets.specs.Sets.{has}
@@ -18,29 +18,28 @@ use Rattle.waits.specs.Report.{Report, Entry, entries_of, written}
 use Rattle.waits.specs.Promises.{laid}
 use Rattle.waits.specs.declared.tables.Waits.{Waits}
 use Rattle.waits.specs.declared.intent.WaitIntent.{WaitIntent}
-use Rattle.waits.specs.declared.intent.Awaits.TheVariants.{For}
 use Rattle.waits.specs.declared.outcome.Outcome.{Outcome}
 use Rattle.waits.specs.declared.outcome.Outcome.TheVariants.{Took, Blocked, Hinted}
 use Rattle.detector.specs.Tables.{Tables, queue_of}
 use Rattle.detector.specs.Condvar.{wake_all}
 use Rattle.detector.specs.Refusals.{refusal}
 use Rattle.detector.specs.State.{tables}
-use Rattle.detector.specs.Promises.{reports_of, refused_by, Steps}
+use Rattle.detector.specs.Numbered.{refused_by, reports_of}
+use Rattle.detector.specs.Promises.{Steps}
 use Rattle.detector.specs.Stuck.{Truly}
 use Rattle.detector.specs.declared.event.Event.{Event}
 use Rattle.detector.specs.declared.event.Event.TheVariants.{MutexAttempt, RwReadAttempt, RwWriteAttempt, CondvarNotifyAll}
 use Rattle.detector.specs.declared.state.Detector.{Detector}
-use Rattle.detector.specs.declared.reply.Stepped.{Stepped}
 use Rattle.detector.specs.Effects.{effect}
 use Rattle.demands.specs.Reached.{Reached}
-use Rattle.demands.specs.Driven.{Call, Back, Driven, Starts}
+use Rattle.demands.specs.Driven.{Call, Stepped, Back, Driven, Starts}
 
 -- A TRUE CYCLE in waits w with reader counts. States that the thread of the entry p has an intent that names
 -- its lock, and that o is among the owners that block this intent (mutex owner, writer, readers). Owning is not
 -- holding: what `thread_holds` has does not count.
 pub record Blocks (counts : List ℕ) (w : Waits) (p : Entry) (o : ℕ) : Type 0 where
   pub intent : WaitIntent
-  pub awaits : intent_of w p.thread ≡ For intent
+  pub awaits : intent_of w p.thread ≡ Some intent
   pub beside : intent.lock_id ≡ p.lock
   pub owns : In o (owners counts w intent)
 
@@ -117,7 +116,7 @@ pub record Shared (counts : List ℕ) (w : Waits) (p : List ℕ) : Type 0 where
 
 -- States that a cycle was found and that its threads share such a lock, in the tables y after the event.
 abbrev pub Spared : Tables → ℕ → ℕ → Outcome → Tables → Type 0
-Spared x t l o y = (p : List ℕ) × (path_found x t l o ≡ some p) × Shared y.rwlock_readers y.waits p
+Spared x t l o y = (p : List ℕ) × (path_found x t l o ≡ Some p) × Shared y.rwlock_readers y.waits p
 
 -- The type of what is demanded of an attempt by t on l with the outcome o in tables x that gives n reports and
 -- tables y. The true waits that count are those in y.
@@ -155,13 +154,13 @@ pub record TrueReports (d : Detector) (ev : Event) (r : Stepped) (b e : List ℕ
 abbrev pub ReportsTrue : Type 0
 ReportsTrue =
     (d₀ d : Detector) (ks : List Call) (bs : List Back) → Starts d₀ → Driven d₀ ks bs d
-    → (ev : Event) (r : Stepped) (b e : List ℕ) → Steps d ev r b e → TrueReports d ev r b e
+    → (ev : Event) (r : Stepped) (b e : List ℕ) → Steps d ev r.detector r.reply b e → TrueReports d ev r b e
 
 -- States the second half of what `step` returns in such a state.
 abbrev pub Called : Converse → (ℕ → ℕ → Outcome → Event) → Type 0
 Called Holds event =
     (d₀ d : Detector) (ks : List Call) (bs : List Back) → Starts d₀ → Driven d₀ ks bs d → Exact (tables d)
-    → (t l : ℕ) (o : Outcome) (r : Stepped) (b e : List ℕ) → Steps d (event t l o) r b e → refused_by r.reply ≡ 0
+    → (t l : ℕ) (o : Outcome) (r : Stepped) (b e : List ℕ) → Steps d (event t l o) r.detector r.reply b e → refused_by r.reply ≡ 0
     → Holds (tables d) t l o (reports_of r.reply) (tables r.detector)
 
 -- States this of each of the three attempts (`converse`).

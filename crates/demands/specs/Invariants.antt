@@ -1,4 +1,6 @@
 -- WHAT HOLDS OF EVERY REACHED STATE. That in the code the cells after a queue's end hold 0 is `valid` in demand 2.
+use Rattle.std.specs.Prelude.{Option, None, Some}
+use Rattle.waits.specs.declared.intent.WaitIntent.{WaitIntent}
 use Rattle.std.specs.Prelude.{◌≡◌, List, [], ◌∷◌, true, ℕ, ◌<◌, ◌≤◌, ◌^◌, get_or, length}
 use Rattle.sets.specs.Limits.{THREADS, LOCKS}
 use Rattle.detector.specs.Limits.{CONDVARS, PLACES}
@@ -9,7 +11,6 @@ use Rattle.graph.specs.Graph.{Good}
 use Rattle.waits.specs.Tables.{intent_of, waiters_of, InRange}
 use Rattle.waits.specs.Validate.{names}
 use Rattle.waits.specs.declared.tables.Waits.{Waits}
-use Rattle.waits.specs.declared.intent.Slot.{Slot}
 use Rattle.detector.specs.Tables.{Tables, blank_cv_wait, queue_of}
 use Rattle.detector.specs.State.{ValidCvWait}
 use Rattle.detector.specs.Effects.{effect}
@@ -20,7 +21,7 @@ use Rattle.demands.specs.Reached.{Reached}
 
 -- States that the tables have a cell for each of the 32 threads or of the 64 locks, and that their sets are
 -- sets of threads and of locks.
-pub record Shaped (slots : List Slot) (waiters holds owners writers : List ℕ) : Type 0 where
+pub record Shaped (slots : List (Option WaitIntent)) (waiters holds owners writers : List ℕ) : Type 0 where
   pub threads : length slots ≡ THREADS
   pub locks : length waiters ≡ LOCKS
   pub few : (l : ℕ) → row waiters l < 2 ^ 32

@@ -1,4 +1,6 @@
 -- SESSIONS 1 to 10, worked by hand: one list, event by event, and further sessions after it.
+use Rattle.std.specs.Prelude.{Option, None, Some}
+use Rattle.waits.specs.declared.intent.WaitIntent.{WaitIntent}
 use Rattle.std.specs.Prelude.{◌≡◌, List, [], ◌∷◌, ◌++◌, map, ℕ, get_or}
 use Rattle.sets.specs.Limits.{THREADS}
 use Rattle.sets.specs.Sets.{upward}
@@ -7,8 +9,6 @@ use Rattle.graph.specs.Search.{row}
 use Rattle.waits.specs.Tables.{intent_of}
 use Rattle.waits.specs.Report.{Report, entries_of, written}
 use Rattle.waits.specs.declared.tables.Waits.{Waits}
-use Rattle.waits.specs.declared.intent.Awaits.{Awaits}
-use Rattle.waits.specs.declared.intent.Awaits.TheVariants.{Nothing, For}
 use Rattle.waits.specs.declared.outcome.Outcome.{Outcome}
 use Rattle.waits.specs.declared.outcome.Outcome.TheVariants.{Took, Blocked, Hinted}
 use Rattle.waits.specs.declared.outcome.Tried.TheVariants.{Taken}
@@ -40,9 +40,9 @@ unfoldable pub edges_in : List ℕ → Pairs
 edges_in rows = each (λ l t. l ++ map (λ o. (t, o)) (upward THREADS (row rows t))) [] THREADS
 
 -- Returns the thread t with the lock that it awaits, or nothing if it has no intent.
-abbrev pub intent_from : ℕ → Awaits → Pairs
-intent_from t Nothing = []
-intent_from t (For i) = (t, i.lock_id) ∷ []
+abbrev pub intent_from : ℕ → Option WaitIntent → Pairs
+intent_from t None = []
+intent_from t (Some i) = (t, i.lock_id) ∷ []
 
 -- Returns all threads that have an intent, each with its lock, upward.
 unfoldable pub intents_in : Waits → Pairs

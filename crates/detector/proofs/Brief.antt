@@ -2,7 +2,7 @@
 use mathlib.Core.Path.{◌≡◌, refl}
 use mathlib.Core.List.{List, [], ◌∷◌, ◌++◌, foldl}
 use mathlib.Core.Bool.{Bool, true, false, cond}
-use mathlib.Core.Option.{Option, none, some}
+use Rattle.std.specs.Prelude.{Option, None, Some}
 use Prim.Native.Nat.{ℕ, ◌+◌, ◌*◌, ◌≤◌}
 use native.Mathlib.Omega.{arith}
 use lib.Dec.{eqb, ltb, lit≤}
@@ -65,8 +65,8 @@ either false x y h k = k
 
 one_checked : (c : List ℕ) (w : Waits) (o : Option (List ℕ)) → Fits o → One (checked c w o)
 unfolding checked
-one_checked c w none f = one_quiet w
-one_checked c w (some p) f = either (valid c w p) (reporting w p) (quiet w) (one_reporting w p f.long) (one_quiet w)
+one_checked c w None f = one_quiet w
+one_checked c w (Some p) f = either (valid c w p) (reporting w p) (quiet w) (one_reporting w p f.long) (one_quiet w)
 
 one_validate : (c : List ℕ) (w : Waits) (p : List ℕ) → length p ≤ 32 → One (validate c w p)
 unfolding validate
@@ -75,12 +75,12 @@ one_validate c w p h =
     either (valid c w p) (reporting w p) (checked c s.waits s.found) (one_reporting w p h) (one_checked c s.waits s.found (fits_locks c w (awaited_locks w p)))
 
 one_judge : (c : List ℕ) (w : Waits) (o : Option (List ℕ)) → Fits o → One (judge_found c w o)
-one_judge c w none f = one_quiet w
-one_judge c w (some p) f = one_validate c w p f.long
+one_judge c w None f = one_quiet w
+one_judge c w (Some p) f = one_validate c w p f.long
 
 one_sieve : (c : List ℕ) (w : Waits) (o : Option (List ℕ)) → Fits o → One (sieve_found c w o)
-one_sieve c w none f = one_quiet w
-one_sieve c w (some p) f = either (passes c w p) (validate c w p) (quiet w) (one_validate c w p f.long) (one_quiet w)
+one_sieve c w None f = one_quiet w
+one_sieve c w (Some p) f = either (passes c w p) (validate c w p) (quiet w) (one_validate c w p f.long) (one_quiet w)
 
 module _ (c : List ℕ) (w : Waits) where
   one_settle : (l : ℕ) → One (settle c w l)

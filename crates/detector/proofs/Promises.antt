@@ -1,86 +1,112 @@
 -- How the promise of an event follows from what its parts promise.
 use mathlib.Core.Path.{◌≡◌, refl, sym, ap, ◌∙◌, subst}
+use mathlib.Core.Bool.{Bool, true, false, cond, true≢false, false≢true}
+use lib.Dec.{eqb, lit<, lit≤}
 use mathlib.Core.List.{List}
-use mathlib.Core.Bool.{true, false, cond, true≢false, false≢true}
-use Prim.Native.Nat.{ℕ, zero, suc, ◌-◌, ◌<◌}
+use Prim.Native.Nat.{ℕ, ◌-◌, ◌<◌, ◌≤◌, zero, suc}
 use native.Mathlib.Omega.{arith}
-use lib.ListN.{length, get_or, replicate, get_or-replicate}
-use lib.Seq.{set-get_or, get_or-set_same}
-use lib.Dec.{lit<, lit≤}
 use borrow.Author.Tests.{eq-eqb}
-use Rattle.waits.specs.Tables.{InRange, waiters_of, owner_of, writer_of, own, write}
-use Rattle.waits.specs.Report.{Judging, written}
-use Rattle.waits.specs.Attempt.{settle}
-use Rattle.waits.specs.Promises.{Judges}
-use Rattle.waits.specs.declared.tables.Waits.{Waits}
-use Rattle.waits.specs.declared.tables.Judged.{Judged}
+use lib.Seq.{set-get_or, get_or-set_same}
+use Rattle.waits.specs.Counts.{place, count_of, count_down}
+use Rattle.detector.specs.Refusals.{full_count}
+use lib.ListN.{length, set, get_or, replicate, get_or-replicate}
+use Rattle.std.specs.Prelude.{Option, None, Some}
+use Rattle.sets.specs.Sets.{without}
+use Rattle.waits.specs.Tables.{InRange, waiters_of, own, write, owner_of, writer_of, holds_of, with_holds, unhold}
 use Rattle.waits.specs.declared.outcome.Outcome.{Outcome}
 use Rattle.waits.specs.declared.outcome.Outcome.TheVariants.{Took, Blocked, Hinted}
-use Rattle.waits.proofs.Judging.{retell, hush_judges, laid_none, laid_length, settle_idle}
-use Rattle.detector.specs.Tables.{Tables, Effect, no_pair, no_cv_wait, blank_cv_wait, with_waits, with_counts, silent, with_judging}
-use Rattle.detector.specs.Mutex.{acquire_slow, mutex_attempt}
-use Rattle.waits.specs.Counts.{count_down, place, count_of}
-use Rattle.detector.specs.RwLock.{acquire_read, read_attempt, acquire_write, write_attempt}
-use Rattle.detector.specs.Refusals.{full_count}
-use Rattle.detector.specs.State.{tables, blank_queue, Queued, ValidCvWait, Valid}
+use Rattle.detector.specs.Mutex.{acquire_slow, mutex_attempt, released}
+use Rattle.detector.specs.RwLock.{acquire_read, read_attempt, acquire_write, write_attempt, write_released}
+use Rattle.waits.proofs.Laws.{range_own, range_write, range_empty}
+use Rattle.waits.specs.Report.{Judging, written}
+use Rattle.waits.specs.Code.{judged}
+use Rattle.waits.specs.Promises.{laid}
+use Rattle.waits.specs.declared.tables.Waits.{Waits}
+use Rattle.waits.proofs.Judging.{laid_none, settle_idle}
+use Rattle.waits.specs.Attempt.{settle}
+use Rattle.detector.specs.Tables.{Tables, Effect, with_waits, with_counts, silent, with_judging, no_pair, no_cv_wait, blank_cv_wait}
+use Rattle.detector.specs.State.{tables, Valid, blank_queue, Queued, ValidCvWait}
 use Rattle.detector.specs.Promises.{Does}
+use Rattle.detector.specs.Code.{put_waits, disowned, empty_queue}
+use Rattle.detector.specs.declared.state.Detector.{Detector}
 use Rattle.waits.specs.Tables as waiting
-use Rattle.waits.proofs.Laws.{range_empty}
 use Rattle.detector.specs.declared.state.Queue.{Queue}
 use Rattle.detector.specs.declared.state.Condvars.{Condvars}
-use Rattle.detector.specs.Code.{empty_queue, put_waits, put_counts, was_blocked, hinted}
-use Rattle.detector.specs.declared.state.Detector.{Detector}
-use Rattle.detector.specs.declared.reply.Done.{Done}
 
 -- ---- A state stays valid if its waits stay in range
 
-valid_waits : (d : Detector) (w : Waits) (n : ℕ) → Valid d → InRange w → Valid (put_waits d w n).detector
-valid_waits d w n v s = record { waits = s; queues = v.queues; cv_waits = v.cv_waits }
+-- Returns the state with other waits and other counts.
+abbrev pub put_counts : Detector → Waits → List ℕ → Detector
+put_counts d w c = record { waits = w; cv_woken = d.cv_woken; rwlock_readers = c; condvars = d.condvars }
 
-valid_counts : (d : Detector) (w : Waits) (c : List ℕ) → Valid d → InRange w → Valid (put_counts d w c).detector
+-- A state stays valid if its waits stay in range.
+valid_counts : (d : Detector) (w : Waits) (c : List ℕ) → Valid d → InRange w → Valid (put_counts d w c)
 valid_counts d w c v s = record { waits = s; queues = v.queues; cv_waits = v.cv_waits }
+
+valid_waits : (d : Detector) (w : Waits) → Valid d → InRange w → Valid (put_waits d w)
+valid_waits d w v s = valid_counts d w d.rwlock_readers v s
+
+-- So it does if a thread or nobody becomes the owner or the writer of a lock.
+pub valid_own : (d : Detector) (o l : ℕ) → o ≤ 32 → Valid d → Valid (put_waits d (own d.waits o l))
+valid_own d o l h v = valid_waits d _ v (range_own d.waits l o h v.waits)
+
+pub valid_write : (d : Detector) (o l : ℕ) → o ≤ 32 → Valid d → Valid (put_waits d (write d.waits o l))
+valid_write d o l h v = valid_waits d _ v (range_write d.waits l o h v.waits)
 
 -- ---- Promises
 
--- The promise of one effect is the promise of an equal one.
-pub redo : {r : Done} {b e : List ℕ} {a z : Effect} → a ≡ z → Does r b e a → Does r b e z
-redo {r} {b} {e} q t = subst (Does r b e) q t
+-- A state with waits in range has its own waits in range.
+pub pack_waits : {c : Detector} (d : Detector) (w : Waits) → c ≡ put_waits d w → InRange w → (c ≡ put_waits d w) × InRange c.waits
+pack_waits d w e h = (e, subst (λ (x : Detector). InRange x.waits) (sym e) h)
 
--- An event whose path was judged by the rule keeps its promise.
-pub does_judges : (d : Detector) (r : Done) (k : Judged) (b e : List ℕ) (a : Judging) → r ≡ put_waits d k.waits k.reports → Valid d → Judges k b e 0 a → Does r b e (with_judging (tables d) a)
-does_judges d r k b e a q v t = subst (λ (x : Done). Does x b e (with_judging (tables d) a)) (sym q) kept
-  where
-    kept : Does (put_waits d k.waits k.reports) b e (with_judging (tables d) a)
-    kept =
-        record {
-          state = ap (with_waits (tables d)) t.waits;
-          count = t.count;
-          bytes = t.bytes;
-          valid = valid_waits d k.waits k.reports v t.in_range;
-        }
+-- The tables after a path was judged are those that were given.
+pub judged_waits : (v : Waits) (o : Option (List ℕ)) → (judged v o).waits ≡ v
+judged_waits v None = refl
+judged_waits v (Some p) = refl
 
--- An event that only changes the waits keeps its promise.
-pub does_waits : (d : Detector) (r : Done) (w : Waits) → r ≡ put_waits d w 0 → Valid d → InRange w → (b : List ℕ) → Does r b b (silent (with_waits (tables d) w))
+-- An event whose path was judged by the rule, and whose report was written, keeps its promise.
+pub does_judges : (d : Detector) (v : Waits) (o : Option (List ℕ)) (n : ℕ) (b e : List ℕ) (a : Judging) → judged v o ≡ a → Valid d → InRange v
+    → n ≡ length (judged v o).reports → e ≡ laid b 0 (written (judged v o).reports) → Does (put_waits d v) n b e (with_judging (tables d) a)
+does_judges d v o n b e a q k s c y =
+    record {
+      state = ap (with_waits (tables d)) (sym (judged_waits v o) ∙ ap (λ (x : Judging). x.waits) q);
+      count = c ∙ ap (λ (x : Judging). length x.reports) q;
+      bytes = y ∙ ap (λ (x : Judging). laid b 0 (written x.reports)) q;
+      valid = valid_waits d v k s;
+    }
+
+-- An event that changes only the waits and the counts, and reports nothing, keeps its promise.
+pub does_counts : (d : Detector) (w : Waits) (c : List ℕ) → Valid d → InRange w → (b : List ℕ) → Does (put_counts d w c) 0 b b (silent (with_counts (tables d) w c))
 unfolding written
-does_waits d r w q v s b =
-    subst (λ (x : Done). Does x b b (silent (with_waits (tables d) w))) (sym q)
-    (record { state = refl; count = refl; bytes = sym (laid_none b 0); valid = valid_waits d w 0 v s })
+does_counts d w c v s b = record { state = refl; count = refl; bytes = sym (laid_none b 0); valid = valid_counts d w c v s }
 
--- So does one that changes the waits and the counts.
-pub does_counts : (d : Detector) (r : Done) (w : Waits) (c : List ℕ) → r ≡ put_counts d w c → Valid d → InRange w → (b : List ℕ) → Does r b b (silent (with_counts (tables d) w c))
-unfolding written
-does_counts d r w c q v s b =
-    subst (λ (x : Done). Does x b b (silent (with_counts (tables d) w c))) (sym q)
-    (record { state = refl; count = refl; bytes = sym (laid_none b 0); valid = valid_counts d w c v s })
+-- So does one that changes only the waits.
+pub does_waits : (d : Detector) (w : Waits) → Valid d → InRange w → (b : List ℕ) → Does (put_waits d w) 0 b b (silent (with_waits (tables d) w))
+does_waits d w v s b = does_counts d w d.rwlock_readers v s b
 
--- ---- If a lock that is taken has no waiters, nothing is reported
+-- The promise of one state is the promise of an equal one.
+pub alike : {c d : Detector} {n : ℕ} {b e : List ℕ} {a : Effect} → c ≡ d → Does d n b e a → Does c n b e a
+alike {n = n} {b = b} {e = e} {a = a} q t = subst (λ (x : Detector). Does x n b e a) (sym q) t
 
-pub idle_judges : (c : List ℕ) (w : Waits) (l : ℕ) (r : Judged) (b : List ℕ) → r ≡ record { waits = w; reports = 0; used = 0 } → InRange w → waiters_of w l ≡ 0 → Judges r b b 0 (settle c w l)
-idle_judges c w l r b e s z = retell (sym (settle_idle c w l z)) (hush_judges r w 0 b e s)
+-- If a lock that is taken has no waiters, nothing is reported and the waits stay.
+pub idle_judges : (c : List ℕ) (w : Waits) (l : ℕ) → waiters_of w l ≡ 0 → judged w None ≡ settle c w l
+idle_judges c w l z = sym (settle_idle c w l z)
 
--- ---- The rules by the outcome of an attempt
+-- ---- Blocked attempts
 
--- An outcome that is not blocked is Took.
+-- Returns true if the thread was blocked, with or without a hint.
+abbrev pub was_blocked : Outcome → Bool
+was_blocked Took = false
+was_blocked Blocked = true
+was_blocked (Hinted o) = true
+
+-- Returns the thread that a hint names, or b if there is no hint.
+abbrev pub hinted : ℕ → Outcome → ℕ
+hinted b Took = b
+hinted b Blocked = b
+hinted b (Hinted o) = o
+
+-- The only outcome without a block is that the thread took the lock.
 pub as_taken : {A : Type 0} (F : Outcome → A) (o : Outcome) → was_blocked o ≡ false → F Took ≡ F o
 as_taken F Took e = refl
 as_taken F Blocked e = absurd (true≢false e)
@@ -100,7 +126,7 @@ write_same : (w : Waits) (l : ℕ) → write w (writer_of w l) l ≡ w
 write_same w l = rw (set-get_or w.rwlock_writer l 0)
 
 module _ (x : Tables) (t l : ℕ) where
-  -- So the code's one call for a blocked attempt is the rule for its outcome.
+  -- So a blocked attempt is one rule, whatever its outcome says of an owner.
   pub mutex_blocked : (o : Outcome) → was_blocked o ≡ true → acquire_slow x (own x.waits (hinted (owner_of x.waits l) o) l) t l ≡ mutex_attempt x t l o
   mutex_blocked = as_hinted (mutex_attempt x t l) (λ h. acquire_slow x (own x.waits h l) t l) _ (ap (λ w. acquire_slow x w t l) (own_same x.waits l)) (λ h. refl)
 
@@ -121,9 +147,49 @@ pub count_down_at : (c : List ℕ) (l t : ℕ) → place t l < length c → coun
 unfolding count_down
 count_down_at c l t h = get_or-set_same c (place t l) (count_of c t l - 1) 0 h
 
--- Judging a path keeps the length of the buffer.
-pub judges_length : {r : Judged} {b e : List ℕ} {from : ℕ} {a : Judging} → Judges r b e from a → length e ≡ length b
-judges_length {b = b} {from = from} {a = a} t = ap length t.bytes ∙ laid_length b from (written a.reports)
+-- ---- An owner, or a writer, that gives up
+
+-- Returns the waits with other owners, or with other writers.
+abbrev with_owners : Waits → List ℕ → Waits
+with_owners w o =
+    record {
+      wait_for_graph = w.wait_for_graph;
+      thread_waits_for = w.thread_waits_for;
+      lock_waiters = w.lock_waiters;
+      thread_holds = w.thread_holds;
+      mutex_owners = o;
+      rwlock_writer = w.rwlock_writer;
+    }
+
+abbrev with_writers : Waits → List ℕ → Waits
+with_writers w o =
+    record {
+      wait_for_graph = w.wait_for_graph;
+      thread_waits_for = w.thread_waits_for;
+      lock_waiters = w.lock_waiters;
+      thread_holds = w.thread_holds;
+      mutex_owners = w.mutex_owners;
+      rwlock_writer = o;
+    }
+
+-- The code changes a table of owners or writers and the holds, and the rule changes the waits.
+pub released_is : (w : Waits) (t l : ℕ) → with_holds (with_owners w (disowned w.mutex_owners t l)) (set w.thread_holds t (without (holds_of w t) l)) ≡ released w t l
+unfolding released
+released_is w t l = go (eqb (owner_of w l) t)
+  where
+    go : (b : Bool) → with_holds (with_owners w (cond b (set w.mutex_owners l 32) w.mutex_owners)) (set w.thread_holds t (without (holds_of w t) l))
+        ≡ unhold (cond b (own w 32 l) w) t l
+    go true = refl
+    go false = refl
+
+pub write_released_is : (w : Waits) (t l : ℕ) → with_holds (with_writers w (disowned w.rwlock_writer t l)) (set w.thread_holds t (without (holds_of w t) l)) ≡ write_released w t l
+unfolding write_released
+write_released_is w t l = go (eqb (writer_of w l) t)
+  where
+    go : (b : Bool) → with_holds (with_writers w (cond b (set w.rwlock_writer l 32) w.rwlock_writer)) (set w.thread_holds t (without (holds_of w t) l))
+        ≡ unhold (cond b (write w 32 l) w) t l
+    go true = refl
+    go false = refl
 
 -- ---- The empty state is valid
 
@@ -137,7 +203,7 @@ get_d_same (suc n) (suc k) v d P p q = get_d_same n k v d P p q
 abbrev pub new_condvars : Condvars
 new_condvars = record { cv_waiters = replicate 16 empty_queue; thread_wait_cv = replicate 32 no_cv_wait }
 
-queued_empty : Queued empty_queue
+pub queued_empty : Queued empty_queue
 queued_empty =
     record {
       long = lit≤ tt;

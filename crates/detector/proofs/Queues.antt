@@ -1,36 +1,38 @@
 -- The queues of the condvars: what their places hold, the walk over one, and what an event does to a state.
 use mathlib.Core.Path.{◌≡◌, refl, sym, ap, ap₂, ◌∙◌, subst}
 use mathlib.Core.List.{List, [], ◌∷◌, ◌++◌, map, foldl, append_assoc, append-nil}
-use mathlib.Core.Bool.{Bool, true, false, cond}
+use mathlib.Core.Bool.{Bool, true, false, cond, false≢true}
 use Prim.Native.Nat.{ℕ, zero, suc, ◌+◌, ◌<◌, ◌≤◌}
+use Rattle.std.specs.Prelude.{Option, None, Some, slice_get, not, ◌&&◌}
 use native.Mathlib.Numerals.{add-one}
+use Rattle.std.proofs.Common.{add-zero}
 use native.Mathlib.Omega.{arith}
 use lib.Dec.{eqb, lit<, lit≤}
-use lib.ListN.{get_or, set, length, take, replicate, length-append, length-set}
-use lib.Seq.{take-suc, take-suc-set, get_or-set_other, length-take-le}
+use lib.ListN.{get_or, set, length, take, length-append, replicate}
+use lib.Seq.{take-suc, get_or-set_other, get_or-take, length-take-le, set-get_or}
 use borrow.Author.Tests.{eq-eqb, ne_eqb, lt-ltb, le-ltb}
 use Rattle.sets.specs.Sets.{with}
 use Rattle.sets.specs.Below.{each}
 use Rattle.sets.proofs.Below.{each_keeps, each_next, each_none}
 use Rattle.sets.proofs.Tables.{set_all, fold_append}
 use Rattle.waits.specs.Tables.{InRange, owner_of}
-use Rattle.waits.specs.Report.{Report, written, bytes_of}
 use Rattle.waits.specs.Attempt.{block_mutex}
-use Rattle.waits.specs.Promises.{Judges, laid}
+use Rattle.waits.specs.Report.{Report, written, report, reporting, quiet, bytes_of}
+use Rattle.waits.specs.Promises.{laid}
+use Rattle.waits.specs.Code.{judged}
 use Rattle.waits.specs.declared.tables.Waits.{Waits}
-use Rattle.waits.specs.declared.tables.Judged.{Judged}
-use Rattle.waits.proofs.Judging.{laid_none, laid_append}
-use Rattle.detector.proofs.Numbers.{queue_at_lem}
-use Rattle.detector.specs.Tables.{no_pair, no_cv_wait, blank_cv_wait, queue_of, with_queue, with_woken}
+use Rattle.waits.proofs.Judging.{laid_none, laid_append, written_one}
+use Rattle.detector.proofs.Promises.{judged_waits}
+use Rattle.detector.specs.Tables.{Tables, no_pair, no_cv_wait, blank_cv_wait, queue_of, with_queue, with_woken}
 use Rattle.detector.specs.Condvar.{condvar_at, forget, Woken, attempted, wake, wake_all, notify, notify_one, is_pair, leave}
 use Rattle.detector.specs.State.{pairs_of, tables, blank_queue, Queued, ValidCvWait, Valid}
 use Rattle.detector.specs.Promises.{Does, Wakes}
-use Rattle.detector.specs.Code.{empty_queue, tail_of}
+use Rattle.detector.specs.Code.{put_woken, tail_of}
 use Rattle.detector.specs.declared.state.Pair.{Pair}
 use Rattle.detector.specs.declared.state.Queue.{Queue}
 use Rattle.detector.specs.declared.state.CvWait.{CvWait}
+use Rattle.detector.specs.declared.state.Condvars.{Condvars}
 use Rattle.detector.specs.declared.state.Detector.{Detector}
-use Rattle.detector.specs.declared.condvar.Awake.{Awake}
 
 -- ---- Places
 
@@ -42,81 +44,70 @@ put_keeps P (x ∷ l) zero (suc k) v d p h = h
 put_keeps P (x ∷ l) (suc i) zero v d p h = h
 put_keeps P (x ∷ l) (suc i) (suc k) v d p h = put_keeps P l i k v d p h
 
--- Every place of a table without pairs holds 0.
+-- ---- One more pair of a queue in a walk over it
+
+-- One more place is one more pair at the end.
 pub pairs_none : (n k : ℕ) → get_or (replicate n no_pair) k no_pair ≡ no_pair
 pairs_none zero k = refl
 pairs_none (suc n) zero = refl
 pairs_none (suc n) (suc k) = pairs_none n k
 
--- States that the first k places have the pairs of the list, and that the places after them hold 0.
-pub record Holds (cells : List Pair) (k : ℕ) (l : List Pair) : Type 0 where
-  pub queued : Queued (record { pairs = cells; len = k })
-  pub list : take k cells ≡ l
-
--- Places without pairs have the empty list.
-pub holds_none : Holds (replicate 32 no_pair) 0 []
-holds_none =
-    record {
-      queued = record {
-        long = lit≤ tt;
-        cells = refl;
-        threads = λ k. rw (pairs_none 32 k) (lit< tt);
-        locks = λ k. rw (pairs_none 32 k) (lit< tt);
-        unused = λ k h. pairs_none 32 k;
-      };
-      list = refl;
-    }
-
--- The empty queue is valid.
-pub queued_none : Queued empty_queue
-queued_none = holds_none.queued
-
--- Storing a pair at the next place adds it to the end of the list.
-pub holds_more : (cells : List Pair) (k : ℕ) (l : List Pair) (p : Pair) → Holds cells k l → k < 32 → p.thread < 32 → p.lock < 64
-    → Holds (set cells k p) (k + 1) (l ++ (p ∷ []))
-holds_more cells k l p h n t o =
-    let q = h.queued in
-    record {
-      queued = record {
-        long = omega arith;
-        cells = length-set cells k p ∙ q.cells;
-        threads = set_all (λ (x : Pair). x.thread < 32) cells k p no_pair t q.threads;
-        locks = set_all (λ (x : Pair). x.lock < 64) cells k p no_pair o q.locks;
-        unused = λ j g. get_or-set_other cells k j p no_pair (λ e. omega arith) ∙ q.unused j (omega arith);
-      };
-      list = rw (add-one, take-suc-set cells k p (omega (arith, q.cells)), h.list);
-    }
-
--- The same of an equal number of places and an equal list.
-pub holds_same : {cells : List Pair} {k j : ℕ} {l m : List Pair} → k ≡ j → l ≡ m → Holds cells k l → Holds cells j m
-holds_same {cells} {k} {j} {l} {m} e f h = subst (λ (n : ℕ). Holds cells n m) e (subst (λ (x : List Pair). Holds cells k x) f h)
-
--- ---- One more pair of a queue in a walk over it
-
--- One more place is one more pair at the end.
 pub take_next : (ps : List Pair) (i : ℕ) → i < length ps → take (i + 1) ps ≡ take i ps ++ (get_or ps i no_pair ∷ [])
 take_next ps i h = rw add-one (take-suc ps i no_pair h)
 
--- The same of the pairs without the first one.
-tail_append : (l m : List Pair) → 0 < length l → tail_of (l ++ m) ≡ tail_of l ++ m
-tail_append [] m h = absurd (omega arith)
-tail_append (p ∷ l) m h = refl
+-- A valid queue has as many pairs as its length says, with threads and locks in range.
+module _ (q : Queue) (h : Queued q) where
+  pub pairs_length : length (pairs_of q) ≡ q.len
+  pairs_length = length-take-le q.len q.pairs (omega (arith, h.cells, h.long))
 
-pub tail_next : (ps : List Pair) (i : ℕ) → 0 < i → i < length ps → tail_of (take i ps) ++ (get_or ps i no_pair ∷ []) ≡ tail_of (take (i + 1) ps)
-tail_next ps i z h =
-    sym (ap tail_of (take_next ps i h) ∙ tail_append (take i ps) _ (let n : length (take i ps) ≡ i = length-take-le i ps (omega arith) in omega arith))
+  pub pair_small : (k : ℕ) → k < length (pairs_of q) → ((get_or (pairs_of q) k no_pair).thread < 32) × ((get_or (pairs_of q) k no_pair).lock < 64)
+  pair_small k i = rw (get_or-take q.len q.pairs k no_pair (omega (arith, pairs_length))) (h.threads k, h.locks k)
 
-pub tail_one : (ps : List Pair) → tail_of (take 1 ps) ≡ []
-tail_one [] = refl
-tail_one (p ∷ ps) = refl
+-- A queue of a valid state has at most 32 pairs.
+pub few_pairs : (d : Detector) (c : ℕ) → Valid d → c < 16 → length (pairs_of (get_or d.condvars.cv_waiters c blank_queue)) ≤ 32
+few_pairs d c v h = let q = v.queues c h in omega (arith, pairs_length (get_or d.condvars.cv_waiters c blank_queue) q, q.long)
 
--- The pairs are the first one and the others.
-pub first_of : (ps : List Pair) (n : ℕ) → 0 < n → 0 < length ps → take n ps ≡ get_or ps 0 no_pair ∷ tail_of (take n ps)
-first_of [] n z h = absurd (omega arith)
-first_of (p ∷ ps) zero z h = absurd (omega arith)
-first_of (p ∷ ps) (suc n) z h = refl
+-- A list has no first pair if it is empty, and else it is its first pair and the others.
+pub none_first : (ps : List Pair) → slice_get ps 0 ≡ None → ps ≡ []
+none_first [] e = refl
+none_first (p ∷ ps) e = cc
+
+pub some_first : (ps : List Pair) (p : Pair) → slice_get ps 0 ≡ Some p → ps ≡ p ∷ tail_of ps
+some_first [] p e = cc
+some_first (q ∷ ps) p e = cc
+
+-- The first pair of a valid queue and the others are in range, and the others have room in a queue.
+module _ (q : Queue) (h : Queued q) (p : Pair) (os : List Pair) (e : pairs_of q ≡ p ∷ os) where
+  pub first_small : (p.thread < 32) × (p.lock < 64)
+  first_small = let s = pair_small q h 0 (rw e (omega arith)) in rw e at s
+
+  pub others_small : (k : ℕ) → k < length os → ((get_or os k no_pair).thread < 32) × ((get_or os k no_pair).lock < 64)
+  others_small k i = let s = pair_small q h (suc k) (rw e (omega arith)) in rw e at s
+
+  pub left_room : (l : Queue) (k : ℕ) → Queued l → pairs_of l ≡ take k os → k < length os → l.len < 32
+  left_room l k u f i =
+      let n : length (p ∷ os) ≡ q.len = sym (ap length e) ∙ pairs_length q h in
+      omega (arith, n, h.long, pairs_length l u, ap length f, length-take-le k os (omega arith))
 
 -- ---- The pairs (t, l) leave a queue
+
+-- The test of the code says whether a pair is another one than (t, l).
+module _ (t l : ℕ) (p : Pair) (b : Bool) (e : b ≡ not (eqb p.thread t && eqb p.lock l)) where
+  pub kept_pair : b ≡ true → is_pair t l p ≡ false
+  kept_pair f = go (eqb p.thread t) (eqb p.lock l) (sym e ∙ f)
+    where
+      go : (x y : Bool) → not (x && y) ≡ true → cond x y false ≡ false
+      go true true z = absurd (false≢true z)
+      go true false z = refl
+      go false y z = refl
+
+  pub gone_pair : b ≡ false → is_pair t l p ≡ true
+  gone_pair f = go (eqb p.thread t) (eqb p.lock l) (sym e ∙ f)
+    where
+      go : (x y : Bool) → not (x && y) ≡ false → cond x y false ≡ true
+      go true true z = refl
+      go true false z = absurd (false≢true (sym z))
+      go false y z = absurd (false≢true (sym z))
 
 -- Taking the pairs (t, l) out of two lists joined takes them out of each.
 leave_append : (t l : ℕ) (x y : List Pair) → leave t l (x ++ y) ≡ leave t l x ++ leave t l y
@@ -171,6 +162,17 @@ module _ (v : List CvWait) (c t : ℕ) where
   pub forget_same : (condvar_at v t ≡ c → ⊥) → forget_below v c t ≡ forget_below v c (t + 1)
   forget_same e = rw (ne_eqb _ _ e) at (each_next (λ u t. cond (eqb (condvar_at v t) c) (set u t no_cv_wait) u) v t)
 
+-- The cv wait at a place that the loop has not reached is still the old one.
+pub forget_at : (v : List CvWait) (c n k : ℕ) → n ≤ k → condvar_at (forget_below v c n) k ≡ condvar_at v k
+unfolding each
+forget_at v c zero k h = refl
+forget_at v c (suc n) k h = go (eqb (condvar_at v n) c) (forget_at v c n k (omega arith))
+  where
+    go : (b : Bool) → condvar_at (forget_below v c n) k ≡ condvar_at v k
+        → condvar_at (cond b (set (forget_below v c n) n no_cv_wait) (forget_below v c n)) k ≡ condvar_at v k
+    go true r = ap (λ (w : CvWait). w.condvar) (get_or-set_other (forget_below v c n) n k no_cv_wait blank_cv_wait (λ e. omega arith)) ∙ r
+    go false r = r
+
 pub forget_all : (v : List CvWait) (c : ℕ) → forget_below v c 32 ≡ forget v c
 unfolding forget
 forget_all v c = refl
@@ -193,42 +195,74 @@ unfolding written
 written_append [] y = refl
 written_append (r ∷ x) y = ap (λ (l : List ℕ). bytes_of r ++ l) (written_append x y) ∙ sym (append_assoc (bytes_of r) (written x) (written y))
 
-module _ (c : List ℕ) (p : Pair) (a : Awake) (b m : List ℕ) (s : Woken) (k : Wakes a b m s) (v : ℕ) (x : v ≡ with a.woken p.thread) where
-  -- If the pair's lock has a mutex owner, the reports of the attempt come after those so far.
-  pub wake_more : (d : Judged) (e : List ℕ) → owner_of a.waits p.lock < 32
-      → Judges d m e a.used (block_mutex c a.waits p.thread p.lock)
-      → Wakes (record { waits = d.waits; woken = v; reports = a.reports + d.reports; used = d.used }) b e (wake c s p)
-  unfolding wake attempted
-  wake_more d e h t =
-      rw (← k.waits, lt-ltb _ _ h)
-      (let y = (block_mutex c a.waits p.thread p.lock).reports in
-      let z = written_append s.reports y in
-      record {
-        waits = t.waits;
-        woken = x ∙ ap (λ (n : ℕ). with n p.thread) k.woken;
-        count = rw length-append (omega (arith, k.count, t.count));
-        bytes =
-            t.bytes
-            ∙ ap₂ (λ (l : List ℕ) (u : ℕ). laid l u (written y)) k.bytes (k.used ∙ omega arith)
-            ∙ sym (laid_append b 0 (written s.reports) (written y))
-            ∙ ap (laid b 0) (sym z);
-        used = rw (z, length-append) (omega (arith, k.used, t.used));
-        in_range = t.in_range;
-      })
+-- What the attempt of a pair does, by whether its lock has a mutex owner.
+module _ (c : List ℕ) (w : Waits) (p : Pair) (l : ℕ) (e : l ≡ p.lock) where
+  pub attempted_some : owner_of w l < 32 → block_mutex c w p.thread l ≡ attempted c w p
+  unfolding attempted
+  attempted_some h = let o : owner_of w p.lock < 32 = rw e at h in rw (e, lt-ltb _ _ o)
 
-  -- If it has none, no report is added.
-  pub wake_less : 32 ≤ owner_of a.waits p.lock
-      → Wakes (record { waits = a.waits; woken = v; reports = a.reports; used = a.used }) b m (wake c s p)
-  unfolding wake attempted
-  wake_less h =
-      rw (← k.waits, le-ltb _ _ h, append-nil)
-      (record { waits = refl; woken = x ∙ ap (λ (n : ℕ). with n p.thread) k.woken; count = k.count; bytes = k.bytes; used = k.used; in_range = k.in_range })
+  pub attempted_none : 32 ≤ owner_of w l → quiet w ≡ attempted c w p
+  unfolding attempted
+  attempted_none h = let o : 32 ≤ owner_of w p.lock = rw e at h in rw (le-ltb _ _ o)
+
+-- The reports of the pair's attempt come after those so far.
+pub wake_judged : (d : Detector) (p : Pair) (n at : ℕ) (b m : List ℕ) (s : Woken) (v : Waits) (o : Option (List ℕ)) → Wakes d n at b m s
+    → judged v o ≡ attempted d.rwlock_readers d.waits p → InRange v
+    → (let y = (judged v o).reports in
+    Wakes (put_woken d v (with d.cv_woken p.thread)) (n + length y) (at + length (written y)) b (laid m at (written y)) (wake d.rwlock_readers s p))
+unfolding wake
+wake_judged d p n at b m s v o k q i =
+    let y = (judged v o).reports in
+    let z = written_append s.reports y in
+    rw (← k.waits, ← q)
+    (record {
+      waits = sym (judged_waits v o);
+      woken = ap (λ (x : ℕ). with x p.thread) k.woken;
+      count = rw length-append (omega (arith, k.count));
+      bytes =
+          ap₂ (λ (l : List ℕ) (u : ℕ). laid l u (written y)) k.bytes (k.used ∙ omega arith)
+          ∙ sym (laid_append b 0 (written s.reports) (written y))
+          ∙ ap (laid b 0) (sym z);
+      used = rw (z, length-append) (omega (arith, k.used));
+      in_range = i;
+    })
+
+-- With a cycle to report the bytes are those of its report, and without one nothing is written.
+pub wake_more : (d : Detector) (p : Pair) (n at : ℕ) (b m e : List ℕ) (u : ℕ) (s : Woken) (v : Waits) (q : List ℕ) → Wakes d n at b m s
+    → reporting v q ≡ attempted d.rwlock_readers d.waits p → InRange v → e ≡ laid m at (bytes_of (report v q)) → u ≡ at + length (bytes_of (report v q))
+    → Wakes (put_woken d v (with d.cv_woken p.thread)) (n + 1) u b e (wake d.rwlock_readers s p)
+wake_more d p n at b m e u s v q k j i f g =
+    rw (f, g)
+    (subst (λ (l : List ℕ). Wakes (put_woken d v (with d.cv_woken p.thread)) (n + 1) (at + length l) b (laid m at l) (wake d.rwlock_readers s p))
+    (written_one (report v q)) (wake_judged d p n at b m s v (Some q) k j i))
+
+pub wake_less : (d : Detector) (p : Pair) (n at : ℕ) (b m : List ℕ) (s : Woken) (v : Waits) → Wakes d n at b m s
+    → quiet v ≡ attempted d.rwlock_readers d.waits p → InRange v
+    → Wakes (put_woken d v (with d.cv_woken p.thread)) n at b m (wake d.rwlock_readers s p)
+unfolding written
+wake_less d p n at b m s v k j i =
+    let w : Wakes (put_woken d v (with d.cv_woken p.thread)) (n + 0) (at + 0) b (laid m at []) (wake d.rwlock_readers s p) = wake_judged d p n at b m s v None k j i in
+    rw (add-zero n, add-zero at, laid_none m at) at w
 
 -- One turn of the loop wakes one more pair.
 pub wake_step : (c : List ℕ) (s : Woken) (ps : List Pair) (i : ℕ) → i < length ps
     → wake c (wake_all c s (take i ps)) (get_or ps i no_pair) ≡ wake_all c s (take (i + 1) ps)
 unfolding wake_all
 wake_step c s ps i h = sym (ap (foldl (wake c) s) (take_next ps i h) ∙ fold_append (wake c) (take i ps) (get_or ps i no_pair ∷ []) s)
+
+-- A state after the walk went on over one more pair.
+pub walk_on : (c : List ℕ) (s : Woken) (ps : List Pair) (i : ℕ) (d f g : Detector) (n at : ℕ) (b e : List ℕ) → i < length ps → d.rwlock_readers ≡ c → f ≡ g
+    → Wakes g n at b e (wake d.rwlock_readers (wake_all c s (take i ps)) (get_or ps i no_pair)) → Wakes f n at b e (wake_all c s (take (i + 1) ps))
+walk_on c s ps i d f g n at b e h r q w =
+    let t = ap (λ (x : List ℕ). wake x (wake_all c s (take i ps)) (get_or ps i no_pair)) r ∙ wake_step c s ps i h in
+    subst (λ (x : Detector). Wakes x n at b e (wake_all c s (take (i + 1) ps))) (sym q) (subst (λ (x : Woken). Wakes g n at b e x) t w)
+
+-- A walk changes only the waits and the woken threads.
+pub woken_again : (a d f : Detector) (w : Waits) (m : ℕ) → d ≡ put_woken a d.waits d.cv_woken → f ≡ put_woken d w m → f ≡ put_woken a f.waits f.cv_woken
+woken_again a d f w m e g =
+    let r : f.rwlock_readers ≡ a.rwlock_readers = ap (λ (x : Detector). x.rwlock_readers) g ∙ ap (λ (x : Detector). x.rwlock_readers) e in
+    let k : f.condvars ≡ a.condvars = ap (λ (x : Detector). x.condvars) g ∙ ap (λ (x : Detector). x.condvars) e in
+    ap₂ (λ (x : List ℕ) (y : Condvars). record { waits = f.waits; cv_woken = f.cv_woken; rwlock_readers = x; condvars = y }) r k
 
 pub wake_none : (c : List ℕ) (s : Woken) (ps : List Pair) → wake_all c s (take 0 ps) ≡ s
 unfolding wake_all
@@ -244,10 +278,9 @@ unfolding written
 silent_bytes b = sym (laid_none b 0)
 
 -- Before the first pair no report is made.
-pub wakes_start : (w : Waits) (n : ℕ) (b : List ℕ) → InRange w
-    → Wakes (record { waits = w; woken = n; reports = 0; used = 0 }) b b (record { waits = w; woken = n; reports = [] })
+pub wakes_start : (d : Detector) (b : List ℕ) → InRange d.waits → Wakes d 0 0 b b (record { waits = d.waits; woken = d.cv_woken; reports = [] })
 unfolding written
-wakes_start w n b h = record { waits = refl; woken = refl; count = refl; bytes = sym (laid_none b 0); used = refl; in_range = h }
+wakes_start d b h = record { waits = refl; woken = refl; count = refl; bytes = sym (laid_none b 0); used = refl; in_range = h }
 
 -- ---- The state
 
@@ -256,6 +289,17 @@ map_set : {A B : Type 0} (f : A → B) (l : List A) (i : ℕ) (v : A) → map f 
 map_set f [] i v = refl
 map_set f (x ∷ l) zero v = refl
 map_set f (x ∷ l) (suc i) v = ap (λ (r : List _). f x ∷ r) (map_set f l i v)
+
+-- Returns the tables with other queues.
+abbrev with_queues : Tables → List (List Pair) → Tables
+with_queues x l =
+    record {
+      waits = x.waits;
+      rwlock_readers = x.rwlock_readers;
+      cv_waiters = l;
+      thread_wait_cv = x.thread_wait_cv;
+      cv_woken = x.cv_woken;
+    }
 
 -- Returns the state with q as the queue of c, and with other cv waits, waits and woken threads.
 abbrev pub queued_state : Detector → ℕ → Queue → List CvWait → Waits → ℕ → Detector
@@ -271,7 +315,7 @@ module _ (d : Detector) (c : ℕ) (q : Queue) (l : List Pair) (v : List CvWait) 
   -- An event that changes these keeps its promise.
   pub queue_does : Valid d → Queued q → pairs_of q ≡ l → ((t : ℕ) → ValidCvWait (get_or v t blank_cv_wait)) → InRange w
       → (n : ℕ) (rs : List Report) (b e : List ℕ) → n ≡ length rs → e ≡ laid b 0 (written rs)
-      → Does (record { detector = queued_state d c q v w m; reports = n }) b e
+      → Does (queued_state d c q v w m) n b e
       (record { tables = with_woken (with_queue (tables d) c l v) w m; reports = rs })
   queue_does h u f a i n rs b e k y =
       record {
@@ -287,39 +331,45 @@ module _ (d : Detector) (c : ℕ) (q : Queue) (l : List Pair) (v : List CvWait) 
 
   -- The same without a report.
   pub silent_does : Valid d → Queued q → pairs_of q ≡ l → ((t : ℕ) → ValidCvWait (get_or v t blank_cv_wait)) → InRange w → (b : List ℕ)
-      → Does (record { detector = queued_state d c q v w m; reports = 0 }) b b (record { tables = with_woken (with_queue (tables d) c l v) w m; reports = [] })
+      → Does (queued_state d c q v w m) 0 b b (record { tables = with_woken (with_queue (tables d) c l v) w m; reports = [] })
   silent_does h u f a i b = queue_does h u f a i 0 [] b b refl (silent_bytes b)
 
--- The places of c's queue have the pairs that the tables have.
-pub held : (d : Detector) (c : ℕ) → Valid d → c < 16 → (let q = get_or d.condvars.cv_waiters c blank_queue in Holds q.pairs q.len (queue_of (tables d) c))
-held d c v h = record { queued = v.queues c h; list = sym (queue_at_lem d c) }
-
 -- Returns the start of a walk over a queue.
-abbrev begun : Detector → Woken
+abbrev pub begun : Detector → Woken
 begun d = record { waits = d.waits; woken = d.cv_woken; reports = [] }
 
 -- An event that wakes the pairs ps and leaves l in the queue of c keeps its promise.
-pub notify_does : (d : Detector) (c : ℕ) (q : Queue) (l ps : List Pair) (a : Awake) (b e : List ℕ) → Valid d → Queued q → pairs_of q ≡ l
-    → Wakes a b e (wake_all d.rwlock_readers (begun d) ps)
-    → Does (record { detector = queued_state d c q d.condvars.thread_wait_cv a.waits a.woken; reports = a.reports }) b e (notify (tables d) c ps l)
-notify_does d c q l ps a b e h u f k =
+pub notify_does : (d : Detector) (c : ℕ) (q : Queue) (l ps : List Pair) (w : Waits) (m n at : ℕ) (b e : List ℕ) → Valid d → Queued q → pairs_of q ≡ l
+    → (let f = queued_state d c q d.condvars.thread_wait_cv w m in
+    Wakes f n at b e (wake_all d.rwlock_readers (begun d) ps) → Does f n b e (notify (tables d) c ps l))
+notify_does d c q l ps w m n at b e h u f k =
     rw (← k.waits, ← k.woken)
-    (queue_does d c q l d.condvars.thread_wait_cv a.waits a.woken h u f h.cv_waits k.in_range a.reports _ b e k.count k.bytes)
+    (queue_does d c q l d.condvars.thread_wait_cv w m h u f h.cv_waits k.in_range n _ b e k.count k.bytes)
 
-module _ (d : Detector) (c : ℕ) (h : Valid d) (s : c < 16) where
+module _ (d : Detector) (c : ℕ) (h : Valid d) (q : Queue) (u : Queued q) where
   -- The event c1 keeps its promise on an empty queue.
-  pub nobody_does : (get_or d.condvars.cv_waiters c blank_queue).len ≡ 0 → (b : List ℕ) → Does (record { detector = d; reports = 0 }) b b (notify_one (tables d) c)
+  pub nobody_does : queue_of (tables d) c ≡ [] → pairs_of q ≡ [] → (b : List ℕ)
+      → Does (queued_state d c q d.condvars.thread_wait_cv d.waits d.cv_woken) 0 b b (notify_one (tables d) c)
   unfolding notify_one
-  nobody_does e b = rw (queue_at_lem d c, e) (record { state = refl; count = refl; bytes = silent_bytes b; valid = h })
+  nobody_does e f b =
+      let k = silent_does d c q [] d.condvars.thread_wait_cv d.waits d.cv_woken h u f h.cv_waits h.waits b in
+      rw e (record {
+        state = k.state ∙ ap (λ (x : List (List Pair)). with_queues (tables d) x) (rw e at (set-get_or (map pairs_of d.condvars.cv_waiters) c []));
+        count = k.count;
+        bytes = k.bytes;
+        valid = k.valid;
+      })
 
   -- The event c1 keeps its promise on any other queue.
-  pub first_does : (q : Queue) (a : Awake) (b e : List ℕ)
-      → (let o = get_or d.condvars.cv_waiters c blank_queue in
-      (0 < o.len) → Queued q → pairs_of q ≡ tail_of (pairs_of o)
-      → Wakes a b e (wake d.rwlock_readers (begun d) (get_or o.pairs 0 no_pair))
-      → Does (record { detector = queued_state d c q d.condvars.thread_wait_cv a.waits a.woken; reports = a.reports }) b e (notify_one (tables d) c))
+  pub first_does : (p : Pair) (l : List Pair) (v : Waits) (o : Option (List ℕ)) (f : Detector) (n : ℕ) (b e : List ℕ)
+      → queue_of (tables d) c ≡ p ∷ l → pairs_of q ≡ l → judged v o ≡ attempted d.rwlock_readers d.waits p → InRange v
+      → f ≡ put_woken (queued_state d c q d.condvars.thread_wait_cv d.waits d.cv_woken) v (with d.cv_woken p.thread)
+      → n ≡ length (judged v o).reports → e ≡ laid b 0 (written (judged v o).reports)
+      → Does f n b e (notify_one (tables d) c)
   unfolding notify_one
-  first_does q a b e n u f k =
-      let o = get_or d.condvars.cv_waiters c blank_queue in
-      rw (queue_at_lem d c, first_of o.pairs o.len n (omega (arith, (h.queues c s).cells)))
-      (notify_does d c q (tail_of (pairs_of o)) (get_or o.pairs 0 no_pair ∷ []) a b e h u f (rw (wake_first _ _ _) k))
+  first_does p l v o f n b e y g j i z k m =
+      let a = queued_state d c q d.condvars.thread_wait_cv d.waits d.cv_woken in
+      let x = wake_judged a p 0 0 b b (begun d) v o (wakes_start a b h.waits) j i in
+      let rs = (judged v o).reports in
+      let r = notify_does d c q l (p ∷ []) v (with d.cv_woken p.thread) (0 + length rs) (0 + length (written rs)) b (laid b 0 (written rs)) h u g (rw (wake_first _ _ _) x) in
+      rw (y, z) (record { state = r.state; count = omega (arith, k, r.count); bytes = m ∙ r.bytes; valid = r.valid })

@@ -2,38 +2,37 @@
 use mathlib.Core.Path.{◌≡◌, refl, sym, ap, ◌∙◌}
 use mathlib.Core.Logic.{◌⊎◌, inl, inr, ◌↔◌, ⊎_elim}
 use mathlib.Core.List.{List, [], ◌∷◌, ◌++◌, foldl}
-use mathlib.Core.Bool.{Bool, true, false, cond, false≢true}
-use mathlib.Core.Option.{Option, none, some}
+use mathlib.Core.Bool.{Bool, true, false, cond, ◌||◌, false≢true}
+use Rattle.std.specs.Prelude.{Option, None, Some, is_some, option_to_list, sum_by}
+use Rattle.std.specs.List.{list_any}
+use lib.ListN.{take}
 use Prim.Native.Nat.{ℕ, zero, suc, ◌+◌, ◌*◌, ◌/◌, ◌%◌, ◌<◌, ◌≤◌, ◌^◌}
 use native.Mathlib.Nat.{pow-suc}
-use native.Mathlib.Numerals.{add-one}
 use native.Mathlib.Omega.{arith}
 use native.Mathlib.Decide.{ℕ_discrete}
 use lib.Count.{ones}
 use lib.Dec.{eqb, lit<}
-use lib.ListN.{get_or, set, length, replicate, length-set, length-append}
-use lib.Seq.{get_or-set_same, get_or-set_other}
-use borrow.Author.Tests.{eq-eqb, ne_eqb, lt-ltb, le-ltb}
-use Rattle.sets.specs.Sets.{bit, has, with, without, upward, lowest}
+use lib.ListN.{get_or, set, length, replicate, length-set}
+use lib.Seq.{get_or-set_same, get_or-set_other, take-length}
+use Rattle.std.proofs.lemmas.List.Sums.{sum_by_more}
+use borrow.Author.Tests.{eq-eqb, ne_eqb}
+use Rattle.sets.specs.Sets.{bit, has, with, upward}
 use Rattle.sets.specs.Lists.{In, among}
 use Rattle.sets.specs.Below.{those, each}
 use Rattle.sets.proofs.Digits.{bit_cases, bit_zero, bit_has, has_bit, bit_with_same, bit_with_other, with_lt}
 use Rattle.sets.proofs.Lists.{among_in}
 use Rattle.sets.proofs.Below.{last_or, those_in, in_those, each_keeps, each_next, each_none}
 use Rattle.sets.proofs.Tables.{set_all, fold_append}
-use Rattle.sets.proofs.Walk.{upward_zero, upward_step, upward_lt, upward_bit, digit_upward}
+use Rattle.sets.proofs.Walk.{upward_lt, upward_bit, digit_upward}
 use Rattle.graph.specs.Ways.{Walk, stop, step}
 use Rattle.graph.specs.Search.{row, find_path}
-use Rattle.graph.specs.Graph.{Edge, one}
-use Rattle.graph.specs.Code.{sought_of}
-use Rattle.graph.specs.declared.path.Way.TheVariants.{Found, Missing}
+use Rattle.graph.specs.Graph.{Edge}
 use Rattle.graph.proofs.Ways.{leads_walk}
 use Rattle.graph.proofs.Paths.{path_found_lem, way_found}
 use Rattle.waits.specs.Tables.{intent_of}
 use Rattle.waits.specs.Owners.{blocking, waits_for}
 use Rattle.waits.specs.declared.tables.Waits.{Waits}
-use Rattle.waits.specs.declared.intent.Awaits.{Awaits}
-use Rattle.waits.specs.declared.intent.Awaits.TheVariants.{Nothing, For}
+use Rattle.waits.specs.declared.intent.WaitIntent.{WaitIntent}
 use Rattle.waits.proofs.Laws.{owners_lt}
 use Rattle.waits.proofs.Masks.{among_upward}
 use Rattle.detector.specs.Tables.{Tables}
@@ -100,16 +99,16 @@ mask_upward m h =
     same_digits 32 (mask_of (upward 32 m)) m (mask_lt (upward 32 m) 0 (lit< tt) (upward_lt 32 m)) h
     (λ i l. same_has _ m i (has_mask (upward 32 m) i ∙ among_upward m i l))
 
-module _ (os : List ℕ) (m o : ℕ) (h : m < 2 ^ 32) (e : upward 32 m ++ one o ≡ os) where
-  -- The mask of the owners is the mask of the readers, with the last owner added unless that is nobody.
-  mask_owners : mask_of os ≡ foldl with m (one o)
-  mask_owners = ap mask_of (sym e) ∙ fold_append with (upward 32 m) (one o) 0 ∙ ap (λ (x : ℕ). foldl with x (one o)) (mask_upward m h)
+module _ (os : List ℕ) (m : ℕ) (o : Option ℕ) (h : m < 2 ^ 32) (e : upward 32 m ++ option_to_list o ≡ os) where
+  -- The mask of the owners is the mask of the readers, with the last owner added if there is one.
+  mask_owners : mask_of os ≡ foldl with m (option_to_list o)
+  mask_owners = ap mask_of (sym e) ∙ fold_append with (upward 32 m) (option_to_list o) 0 ∙ ap (λ (x : ℕ). foldl with x (option_to_list o)) (mask_upward m h)
 
-  pub mask_last : o < 32 → with m o ≡ mask_of os
-  mask_last l = sym (mask_owners ∙ rw (lt-ltb _ _ l))
+  pub mask_last : (x : ℕ) → o ≡ Some x → with m x ≡ mask_of os
+  mask_last x q = sym (mask_owners ∙ rw q)
 
-  pub mask_none : 32 ≤ o → m ≡ mask_of os
-  mask_none l = sym (mask_owners ∙ rw (le-ltb _ _ l))
+  pub mask_none : o ≡ None → m ≡ mask_of os
+  mask_none q = sym (mask_owners ∙ rw q)
 
 -- ---- The rows
 
@@ -147,9 +146,9 @@ rows_all c w = refl
 
 module _ (c : List ℕ) (w : Waits) where
   -- The owners that block a thread are below 32.
-  blocking_lt : (a : Awaits) (x : ℕ) → In x (blocking c w a) → x < 32
-  blocking_lt Nothing x i = absurd i
-  blocking_lt (For i) x m = owners_lt c w i x m
+  blocking_lt : (a : Option WaitIntent) (x : ℕ) → In x (blocking c w a) → x < 32
+  blocking_lt None x i = absurd i
+  blocking_lt (Some i) x m = owners_lt c w i x m
 
   -- Row t has u exactly when t truly waits for u.
   pub row_waits : (t u : ℕ) → t < 32 → has (row (true_waits c w) t) u ≡ waits_for c w t u
@@ -194,58 +193,29 @@ module _ (rows : List ℕ) (t : ℕ) where
       go true r = refl
       go false r = r
 
--- The way of the code's result says whether there is a path.
-pub way_yes : (o : Option (List ℕ)) → (sought_of o).way ≡ Found → true ≡ found o
-way_yes none e = let z : ◌≡◌ {A = ℕ} 0 1 = cc in absurd (omega arith)
-way_yes (some p) e = refl
-
-pub way_no : (o : Option (List ℕ)) → (sought_of o).way ≡ Missing → false ≡ found o
-way_no none e = refl
-way_no (some p) e = let z : ◌≡◌ {A = ℕ} 0 1 = cc in absurd (omega arith)
-
--- A walk over a set ends at the first thread with a path to t, goes on at one without, and ends with false at the end.
-pub back_some : (rows : List ℕ) (t m : ℕ) → 0 < m → m < 2 ^ 32 → found (find_path rows (lowest 32 m) t) ≡ true → true ≡ any_back rows t (upward 32 m)
+-- `any_back` is the library's test of each thread of the list.
+pub back_list : (rows : List ℕ) (t : ℕ) (us : List ℕ) → list_any (λ u. is_some (find_path rows u t)) us ≡ any_back rows t us
 unfolding any_back
-back_some rows t m p h e = rw (upward_step 32 m p h, e)
-
-pub back_next : (rows : List ℕ) (t m : ℕ) → 0 < m → m < 2 ^ 32 → found (find_path rows (lowest 32 m) t) ≡ false
-    → any_back rows t (upward 32 (without m (lowest 32 m))) ≡ any_back rows t (upward 32 m)
-unfolding any_back
-back_next rows t m p h e = rw (upward_step 32 m p h, e)
-
-pub back_none : (rows : List ℕ) (t m : ℕ) → m ≡ 0 → false ≡ any_back rows t (upward 32 m)
-unfolding any_back
-back_none rows t m e = rw (e, upward_zero 32 0)
+back_list rows t [] = refl
+back_list rows t (u ∷ us) = go (find_path rows u t) ∙ ap (cond (found (find_path rows u t)) true) (back_list rows t us)
+  where
+    go : (o : Option (List ℕ)) → (is_some o || list_any (λ v. is_some (find_path rows v t)) us) ≡ cond (found o) true (list_any (λ v. is_some (find_path rows v t)) us)
+    go None = refl
+    go (Some p) = refl
 
 -- ---- Counting
 
--- The count rises by one for each number for which f is true.
-pub those_more : (f : ℕ → Bool) (n : ℕ) → f n ≡ true → length (those f n) + 1 ≡ length (those f (n + 1))
-unfolding those
-those_more f n e = rw (add-one n, e, length-append)
+-- The edges of the rows below n are the sum over the first n rows.
+edges_taken : (rows : List ℕ) (n : ℕ) → n ≤ length rows → sum_by ones (take n rows) ≡ each (λ m t. m + ones (row rows t)) 0 n
+unfolding each
+edges_taken rows zero h = refl
+edges_taken rows (suc n) h =
+    let e : suc n ≡ n + 1 = omega arith in
+    ap (λ (m : ℕ). sum_by ones (take m rows)) e ∙ sum_by_more ones rows n 0 (omega arith) ∙ ap (λ (m : ℕ). m + ones (row rows n)) (edges_taken rows n (omega arith))
 
-pub those_not : (f : ℕ → Bool) (n : ℕ) → f n ≡ false → length (those f n) ≡ length (those f (n + 1))
-unfolding those
-those_not f n e = rw (add-one n, e, length-append) (omega arith)
-
-pub those_none : (f : ℕ → Bool) → 0 ≡ length (those f 0)
-unfolding those
-those_none f = refl
-
--- Returns how many edges the rows below t have.
-abbrev pub edges_below : List ℕ → ℕ → ℕ
-edges_below rows t = each (λ n t. n + ones (row rows t)) 0 t
-
--- A loop over the rows adds the edges of one after the other.
-pub edges_none : (rows : List ℕ) → 0 ≡ edges_below rows 0
-edges_none rows = sym (each_none _ _)
-
-pub edges_more : (rows : List ℕ) (t : ℕ) → edges_below rows t + ones (row rows t) ≡ edges_below rows (t + 1)
-edges_more rows t = each_next (λ n t. n + ones (row rows t)) 0 t
-
-pub edges_all : (rows : List ℕ) → edges_below rows 32 ≡ edge_count rows
+pub edges_sum : (rows : List ℕ) → length rows ≡ 32 → sum_by ones rows ≡ edge_count rows
 unfolding edge_count
-edges_all rows = refl
+edges_sum rows e = ap (sum_by ones) (sym (take-length rows) ∙ ap (λ (n : ℕ). take n rows) e) ∙ edges_taken rows 32 (omega arith)
 
 -- ---- THEOREM: the search finds exactly the stuck threads
 
@@ -280,8 +250,8 @@ module _ (x : Tables) where
   found_walk u t h = go (find_path rows u t) refl
     where
       go : (o : Option (List ℕ)) → find_path rows u t ≡ o → found o ≡ true → Walk (Edge rows) u t
-      go none e f = absurd (false≢true f)
-      go (some p) e f = leads_walk (Edge rows) u t p (path_found_lem rows (rows_narrow x.rwlock_readers x.waits) u t h p e).leads
+      go None e f = absurd (false≢true f)
+      go (Some p) e f = leads_walk (Edge rows) u t p (path_found_lem rows (rows_narrow x.rwlock_readers x.waits) u t h p e).leads
 
   -- The search finds t exactly when t is stuck.
   pub stuck_meaning : (t : ℕ) → t < 32 → (stuck_in rows t ≡ true) ↔ Stuck x t

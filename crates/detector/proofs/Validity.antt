@@ -1,19 +1,24 @@
 -- The test of a lent state is true exactly when the state is valid.
 use mathlib.Core.Path.{◌≡◌, refl, sym, ap, ap₂, ◌∙◌, subst}
 use mathlib.Core.List.{List, map}
-use mathlib.Core.Bool.{true}
-use Prim.Native.Nat.{ℕ, ◌<◌, ◌≤◌}
+use mathlib.Core.Bool.{Bool, true, false, cond}
+use Prim.Native.Nat.{ℕ, zero, suc, ◌<◌, ◌≤◌}
+use Rattle.std.specs.Prelude.{Option, None, ◌&&◌}
+use Rattle.std.specs.List.{list_all}
+use Rattle.std.proofs.lemmas.List.{take_all}
+use Rattle.std.proofs.lemmas.List.Folds.{list_all_more}
+use native.Mathlib.Numerals.{add-one}
 use native.Mathlib.Omega.{arith}
 use native.Mathlib.Decide.{dec_lt, ℕ_discrete}
 use lib.Dec.{ltb, lit<, lit≤}
-use lib.ListN.{get_or, length, length-map, get_or-eq_default}
+use lib.ListN.{get_or, length, take, length-map, get_or-eq_default}
 use borrow.Author.Tests.{eq-eqb, ne_eqb, lt-ltb, le-ltb, eqb-true, ltb-true}
 use Rattle.sets.proofs.Lists.{both}
 use Rattle.sets.specs.Below.{every}
 use Rattle.sets.proofs.Below.{every_at, every_of}
-use Rattle.waits.specs.Tables.{no_slot, InRange, intent_of, lock_of, owner_of, writer_of}
+use Rattle.waits.specs.Tables.{InRange, intent_of, lock_of, owner_of, writer_of}
 use Rattle.waits.specs.declared.tables.Waits.{Waits}
-use Rattle.waits.specs.declared.intent.Slot.{Slot}
+use Rattle.waits.specs.declared.intent.WaitIntent.{WaitIntent}
 use Rattle.detector.specs.Tables.{no_pair, blank_cv_wait}
 use Rattle.detector.specs.State.{blank_queue, Queued, ValidCvWait, Valid, range_test, place_test, queue_test, cv_wait_test, valid_test}
 use Rattle.detector.specs.declared.state.Pair.{Pair}
@@ -29,6 +34,24 @@ everywhere P l d n e p h k = go (dec_lt k n)
     go (yes i) = h k i
     go (no i) = subst P (sym (get_or-eq_default l d (omega (arith, e)))) p
 
+and_cond : (a b : Bool) → (a && b) ≡ cond a b false
+and_cond true b = refl
+and_cond false b = refl
+
+-- A test of every element of a table is a test of every place.
+module _ {A : Type 0} (p : A → Bool) (l : List A) (d : A) where
+  every_taken : (n : ℕ) → n ≤ length l → list_all p (take n l) ≡ every (λ k. p (get_or l k d)) n
+  unfolding every
+  every_taken zero h = refl
+  every_taken (suc n) h =
+      ap (λ (x : ℕ). list_all p (take x l)) (sym (add-one n))
+      ∙ list_all_more p l n d (omega arith)
+      ∙ and_cond (list_all p (take n l)) (p (get_or l n d))
+      ∙ ap (λ (b : Bool). cond b (p (get_or l n d)) false) (every_taken n (omega arith))
+
+  pub every_place : (n : ℕ) → length l ≡ n → list_all p l ≡ every (λ k. p (get_or l k d)) n
+  every_place n e = ap (list_all p) (sym (take_all n l (omega arith))) ∙ every_taken n (omega arith)
+
 -- ---- The tables of the waits
 
 module _ (w : Waits) where
@@ -42,16 +65,39 @@ module _ (w : Waits) where
       )
       (every_of (λ l. ltb (writer_of w l) 33) 64 (λ l h. let o = r.writer l in lt-ltb (writer_of w l) 33 (omega arith)))
 
+  -- The test by how the tests of the three tables came out.
+  module _ (i : length w.thread_waits_for ≡ 32) (o : length w.mutex_owners ≡ 64) (r : length w.rwlock_writer ≡ 64) where
+    pub range_last : list_all (λ i. ltb (lock_of i) 64) w.thread_waits_for ≡ true → list_all (λ o. ltb o 33) w.mutex_owners ≡ true
+        → list_all (λ o. ltb o 33) w.rwlock_writer ≡ range_test w
+    unfolding range_test
+    range_last p q =
+        let a = sym (every_place (λ i. ltb (lock_of i) 64) w.thread_waits_for None 32 i) ∙ p in
+        let b = sym (every_place (λ o. ltb o 33) w.mutex_owners 0 64 o) ∙ q in
+        rw (a, b) (every_place (λ o. ltb o 33) w.rwlock_writer 0 64 r)
+
+    pub range_second : list_all (λ i. ltb (lock_of i) 64) w.thread_waits_for ≡ true → list_all (λ o. ltb o 33) w.mutex_owners ≡ false → false ≡ range_test w
+    unfolding range_test
+    range_second p q =
+        let a = sym (every_place (λ i. ltb (lock_of i) 64) w.thread_waits_for None 32 i) ∙ p in
+        let b = sym (every_place (λ o. ltb o 33) w.mutex_owners 0 64 o) ∙ q in
+        rw (a, b)
+
+    pub range_first : list_all (λ i. ltb (lock_of i) 64) w.thread_waits_for ≡ false → false ≡ range_test w
+    unfolding range_test
+    range_first p =
+        let a = sym (every_place (λ i. ltb (lock_of i) 64) w.thread_waits_for None 32 i) ∙ p in
+        rw a
+
   at_most : (o : ℕ) → ltb o 33 ≡ true → o ≤ 32
   at_most o e = let h : o < 33 = ltb-true o 33 e in omega arith
 
-  tested_range : length w.thread_waits_for ≡ 32 → length w.mutex_owners ≡ 64 → length w.rwlock_writer ≡ 64 → range_test w ≡ true → InRange w
+  pub tested_range : length w.thread_waits_for ≡ 32 → length w.mutex_owners ≡ 64 → length w.rwlock_writer ≡ 64 → range_test w ≡ true → InRange w
   unfolding range_test
   tested_range i o r e =
       let p = both (every (λ t. ltb (lock_of (intent_of w t)) 64) 32) _ e in
       let q = both (every (λ l. ltb (owner_of w l) 33) 64) (every (λ l. ltb (writer_of w l) 33) 64) p.1 in
       record {
-        locks = everywhere (λ (s : Slot). lock_of s.awaits < 64) w.thread_waits_for no_slot 32 i (lit< tt)
+        locks = everywhere (λ (s : Option WaitIntent). lock_of s < 64) w.thread_waits_for None 32 i (lit< tt)
             (λ t h. ltb-true _ _ (every_at (λ t. ltb (lock_of (intent_of w t)) 64) 32 p.0 t h));
         owner = everywhere (λ (x : ℕ). x ≤ 32) w.mutex_owners 0 64 o (lit≤ tt)
             (λ l h. at_most _ (every_at (λ l. ltb (owner_of w l) 33) 64 q.0 l h));
@@ -145,7 +191,7 @@ module _ (v : CvWait) where
 
 -- ---- THEOREMS
 
--- States what the types say of the length of a state's tables.
+-- States that the tables of a state are as long as their types say.
 pub record Shaped (d : Detector) : Type 0 where
   pub intents : length d.waits.thread_waits_for ≡ 32
   pub owners : length d.waits.mutex_owners ≡ 64
@@ -154,25 +200,46 @@ pub record Shaped (d : Detector) : Type 0 where
   pub cells : (c : ℕ) → c < 16 → length (get_or d.condvars.cv_waiters c blank_queue).pairs ≡ 32
 
 module _ (d : Detector) where
-  -- A valid state passes the test, and a state that passes it is valid if its tables are as long as their types say.
+  -- A valid state passes the test, and a state that passes it is valid if its waits are in range.
   pub valid_tested : Valid d → valid_test d ≡ true
   unfolding valid_test
   valid_tested v =
       rw (range_tested d.waits v.waits, every_of (λ c. queue_test (get_or d.condvars.cv_waiters c blank_queue)) 16 (λ c h. queue_tested _ (v.queues c h)))
       (every_of _ 32 (λ t h. cv_wait_tested _ (v.cv_waits t)))
 
-  pub tested_valid : Shaped d → valid_test d ≡ true → Valid d
+  -- A state whose waits are in range is valid if it passes the test and its tables are as long as their types say.
+  pub range_valid : InRange d.waits → ((c : ℕ) → c < 16 → length (get_or d.condvars.cv_waiters c blank_queue).pairs ≡ 32) → length d.condvars.thread_wait_cv ≡ 32
+      → valid_test d ≡ true → Valid d
   unfolding valid_test
-  tested_valid s e =
+  range_valid i s v e =
       let p = both (range_test d.waits) _ e in
       let q = both (every (λ c. queue_test (get_or d.condvars.cv_waiters c blank_queue)) 16) (every (λ t. cv_wait_test (get_or d.condvars.thread_wait_cv t blank_cv_wait)) 32) p.1 in
       record {
-        waits = tested_range d.waits s.intents s.owners s.writers p.0;
-        queues = λ c h. tested_queue _ (s.cells c h) (every_at (λ c. queue_test (get_or d.condvars.cv_waiters c blank_queue)) 16 q.0 c h);
-        cv_waits = everywhere ValidCvWait d.condvars.thread_wait_cv blank_cv_wait 32 s.cv_waits
+        waits = i;
+        queues = λ c h. tested_queue _ (s c h) (every_at (λ c. queue_test (get_or d.condvars.cv_waiters c blank_queue)) 16 q.0 c h);
+        cv_waits = everywhere ValidCvWait d.condvars.thread_wait_cv blank_cv_wait 32 v
             (record { condvar = lit≤ tt; lock = lit< tt; absent = λ z. refl })
             (λ t h. tested_cv_wait _ (every_at (λ t. cv_wait_test (get_or d.condvars.thread_wait_cv t blank_cv_wait)) 32 q.1 t h));
       }
+
+  -- So is any state that passes the test, if its tables are as long as their types say.
+  pub tested_valid : Shaped d → valid_test d ≡ true → Valid d
+  unfolding valid_test
+  tested_valid s e = range_valid (tested_range d.waits s.intents s.owners s.writers (both (range_test d.waits) _ e).0) s.cells s.cv_waits e
+
+  -- The test by how its three parts came out.
+  pub valid_last : length d.condvars.thread_wait_cv ≡ 32 → range_test d.waits ≡ true → every (λ c. queue_test (get_or d.condvars.cv_waiters c blank_queue)) 16 ≡ true
+      → list_all cv_wait_test d.condvars.thread_wait_cv ≡ valid_test d
+  unfolding valid_test
+  valid_last v p q = rw (p, q) (every_place cv_wait_test d.condvars.thread_wait_cv blank_cv_wait 32 v)
+
+  pub valid_second : range_test d.waits ≡ true → every (λ c. queue_test (get_or d.condvars.cv_waiters c blank_queue)) 16 ≡ false → false ≡ valid_test d
+  unfolding valid_test
+  valid_second p q = rw (p, q)
+
+  pub valid_first : range_test d.waits ≡ false → false ≡ valid_test d
+  unfolding valid_test
+  valid_first p = rw p
 
 -- The length of a table of structs follows from the length of the list made from it.
 pub unmapped : (X Y : Type 0) (f : X → Y) (l : List X) (n : ℕ) → length (map f l) ≡ n → length l ≡ n

@@ -6,6 +6,7 @@ pub mod RwLock
 pub mod Condvar
 pub mod Events
 pub mod Refusals
+pub mod Numbered
 pub mod Effects
 pub mod State
 pub mod Brief

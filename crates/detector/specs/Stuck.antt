@@ -1,7 +1,6 @@
 -- STUCK THREADS and stored edges, two totals of the end line.
-use Rattle.std.specs.Prelude.{◌≡◌, Bool, true, false, cond, ℕ, ◌+◌, length, set, replicate}
+use Rattle.std.specs.Prelude.{◌≡◌, Bool, true, false, cond, ℕ, ◌+◌, length, set, replicate, Option, None, Some}
 use mathlib.Core.List.{List, [], ◌∷◌, foldl}
-use Rattle.std.proofs.Math.Option.{Option, none, some}
 use Rattle.std.specs.Int.Count.{ones}
 use Rattle.sets.specs.Limits.{THREADS}
 use Rattle.sets.specs.Sets.{with, upward}
@@ -34,8 +33,8 @@ true_waits counts w = each (λ r t. set r t (mask_of (blocking counts w (intent_
 
 -- Returns true if there is a path.
 abbrev pub found : Option (List ℕ) → Bool
-found none = false
-found (some p) = true
+found None = false
+found (Some p) = true
 
 -- Returns true if there is a path to t from one of the threads us.
 unfoldable pub any_back : List ℕ → ℕ → List ℕ → Bool

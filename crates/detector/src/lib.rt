@@ -5,7 +5,8 @@ mod condvar;
 mod event;
 mod mutex;
 mod refusal;
-mod reply;
+mod refused;
+mod report;
 mod rwlock;
 mod state;
 mod step;
@@ -14,6 +15,6 @@ mod types;
 mod valid;
 
 pub use event::Event;
-pub use reply::{Done, Reply, Stepped, StuckReply};
+pub use refused::Refusal;
 pub use state::{Condvars, CvWait, Detector, Pair, Queue};
 pub use types::typed;

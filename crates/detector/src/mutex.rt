@@ -1,183 +1,109 @@
 // The events of a mutex.
 ghost use Rattle.std.specs.Prelude.{◌≡◌, List, ℕ, ◌<◌, ◌≤◌, length};
-ghost use Rattle.sets.specs.Limits.{THREADS, LOCKS, NOBODY};
-ghost use Rattle.waits.specs.Tables.{InRange, own};
+ghost use Rattle.sets.specs.Limits.{THREADS, LOCKS};
+ghost use Rattle.waits.specs.Tables.{InRange};
 ghost use Rattle.waits.specs.Validate.{names};
-ghost use Rattle.detector.specs.Mutex.{gain, clear_naming, purge, mutex_attempt, complete_acquire, release_mutex, destroy_mutex};
+ghost use Rattle.detector.specs.Mutex.{clear_naming, purge, mutex_attempt, complete_acquire, release_mutex, destroy_mutex};
 ghost use Rattle.detector.specs.Refusals.{hint_of, buffer_bytes};
 ghost use Rattle.detector.specs.State.{tables, Valid};
 ghost use Rattle.detector.specs.Promises.{Does};
-ghost use Rattle.detector.specs.Code.{was_blocked, hinted};
+ghost use Rattle.detector.specs.Code.{put_waits, disowned};
 
-use crate::reply::Done;
 use crate::state::Detector;
-use sets::{NOBODY, THREADS, locks};
-use waits::{Awaits, Outcome, Slot, WaitMode, Waits};
+use sets::{LOCKS, Set, THREADS};
+use waits::{Outcome, WaitIntent, WaitMode, Waits};
 
-// Returns the tables with t, or nobody, as the owner of the mutex l.
-fn owned(mut w: Waits, t: usize, l: usize) -> Waits
-    requires { InRange w × (l < LOCKS) × (t ≤ NOBODY) }
-    ensures { (result ≡ own w t l) × InRange result }
+// Returns true if the intent names l.
+fn names(intent: Option<WaitIntent>, l: usize) -> bool
+    ensures { result ≡ names intent l }
 {
-    w.mutex_owners[l] = t as u8;
-    w
+    intent.is_some_and(|i| usize::from(i.lock_id) == l)
 }
 
-// Adds l to t's holds and clears t's intent.
-pub(crate) fn gained(mut w: Waits, t: usize, l: usize) -> Waits
-    requires { InRange w × (t < THREADS) × (l < LOCKS) }
-    ensures { (result ≡ gain w t l) × InRange result }
+// Makes nobody the owner of l, or its writer, if t was. The table has the owners or the writers.
+pub(crate) fn disown(owners: &mut [u8; LOCKS], t: usize, l: usize)
+    requires { l < LOCKS }
+    ensures { owners.new ≡ disowned owners.old t l }
 {
-    let holds = w.thread_holds[t];
-    w.thread_holds[t] = locks::with(holds, l);
-    w.clear_wait_intent(t)
-}
-
-// Returns true if the thread was blocked, with or without a hint.
-pub(crate) fn was_blocked(o: Outcome) -> bool
-    ensures { result ≡ was_blocked o }
-{
-    match o {
-        Outcome::Took => false,
-        Outcome::Blocked => true,
-        Outcome::Hinted(_) => true,
+    if usize::from(owners[l]) == t {
+        owners[l] = Waits::NOBODY;
     }
-}
-
-// Returns the thread that a hint names, or `before` if there is no hint. It works on a number and not on the tables, so
-// that the compiler copies no table for an outcome.
-pub(crate) fn hinted(before: usize, o: Outcome) -> usize
-    requires { (before ≤ NOBODY) × (hint_of o < THREADS) }
-    ensures { (result ≡ hinted before o) × (result ≤ NOBODY) }
-{
-    match o {
-        Outcome::Took => before,
-        Outcome::Blocked => before,
-        Outcome::Hinted(h) => h,
-    }
-}
-
-// Returns true if the intent in the slot names l.
-fn awaits(s: Slot, l: usize) -> bool
-    ensures { result ≡ names s.awaits l }
-{
-    let awaits = s.awaits;
-    let Awaits::For(i) = awaits else {
-        return false;
-    };
-    let lock = i.lock_id as usize;
-    lock == l
-}
-
-// Clears the intent of every thread whose intent names l, in any mode.
-fn cleared(w0: Waits, l: usize) -> Waits
-    requires { InRange w0 }
-    ensures { (result ≡ clear_naming w0 l) × InRange result }
-{
-    let slots = w0.thread_waits_for;
-    let mut w = w0;
-    let mut t = 0;
-    while t < THREADS {
-        let s = slots[t];
-        if awaits(s, l) {
-            w = w.clear_wait_intent(t);
-        }
-        t += 1;
-    }
-    w
-}
-
-// Takes l out of all holds and empties its waiters.
-pub(crate) fn purged(w0: Waits, l: usize) -> Waits
-    requires { InRange w0 × (l < LOCKS) }
-    ensures { (result ≡ purge w0 l) × InRange result }
-{
-    let mut w = w0;
-    let mut t = 0;
-    while t < THREADS {
-        let holds = w.thread_holds[t];
-        w.thread_holds[t] = locks::without(holds, l);
-        t += 1;
-    }
-    w.lock_waiters[l] = 0;
-    w
 }
 
 impl Detector {
     // ma: t attempts to take the mutex l, with the outcome o. If t took it, does as mc. If t was blocked, makes the
     // hinted thread, if any, the owner, registers t's intent, filters a path found, and validates it if it passes.
-    pub fn acquire_slow_with_recheck(self, t: usize, l: usize, o: Outcome, buf: &mut [u8]) -> Done
-        requires { Valid self × (t < THREADS) × (l < LOCKS) × (hint_of o < THREADS) × (buffer_bytes ≤ length buf.old) }
-        ensures { Does result buf.old buf.new (mutex_attempt (tables self) t l o) }
+    pub fn acquire_slow_with_recheck(
+        &mut self,
+        t: usize,
+        l: usize,
+        o: Outcome,
+        buf: &mut [u8],
+    ) -> usize
+        requires { Valid self.old × (t < THREADS) × (l < LOCKS) × (hint_of o < THREADS) × (buffer_bytes ≤ length buf.old) }
+        ensures { Does self.new result buf.old buf.new (mutex_attempt (tables self.old) t l o) }
     {
-        let w0 = self.waits;
-        if was_blocked(o) {
-            let owners = w0.mutex_owners;
-            let before = owners[l] as usize;
-            let h = hinted(before, o);
-            let w = owned(w0, h, l);
-            let counts = self.counts();
-            let d = w.attempt(&counts, t, l, WaitMode::Mutex, buf, 0);
-            return self.with_judged(d);
+        match o {
+            Outcome::Took => return self.complete_acquire(t, l, buf),
+            Outcome::Blocked => {}
+            Outcome::Hinted(h) => self.waits.mutex_owners[l] = h as u8,
         }
-        let a = owned(w0, t, l);
-        let w = gained(a, t, l);
-        let mut d = w.quiet(0);
-        if w.lock_waiters[l] != 0 {
-            let counts = self.counts();
-            d = w.settle(&counts, l, buf, 0);
-        }
-        self.with_judged(d)
+        self.block(t, l, WaitMode::Mutex, buf)
     }
 
     // mc: t has the mutex l. Makes t its owner, adds l to t's holds, clears t's intent, refreshes l's waiters, and
     // validates a path that the refresh finds, without the filter.
-    pub fn complete_acquire(self, t: usize, l: usize, buf: &mut [u8]) -> Done
-        requires { Valid self × (t < THREADS) × (l < LOCKS) × (buffer_bytes ≤ length buf.old) }
-        ensures { Does result buf.old buf.new (complete_acquire (tables self) t l) }
+    pub fn complete_acquire(&mut self, t: usize, l: usize, buf: &mut [u8]) -> usize
+        requires { Valid self.old × (t < THREADS) × (l < LOCKS) × (buffer_bytes ≤ length buf.old) }
+        ensures { Does self.new result buf.old buf.new (complete_acquire (tables self.old) t l) }
     {
-        let w0 = self.waits;
-        let a = owned(w0, t, l);
-        let w = gained(a, t, l);
-        let mut d = w.quiet(0);
-        if w.lock_waiters[l] != 0 {
-            let counts = self.counts();
-            d = w.settle(&counts, l, buf, 0);
-        }
-        self.with_judged(d)
+        self.waits.mutex_owners[l] = t as u8;
+        self.take(t, l, buf)
     }
 
     // mr: t releases the mutex l. Makes nobody its owner if t was. In any case takes l out of t's holds and refreshes
     // l's waiters. A path that the refresh finds is dropped, so nothing is reported.
-    pub fn release_mutex(self, t: usize, l: usize) -> Done
-        requires { Valid self × (t < THREADS) × (l < LOCKS) }
-        ensures { (b : List ℕ) → Does result b b (release_mutex (tables self) t l) }
+    pub fn release_mutex(&mut self, t: usize, l: usize)
+        requires { Valid self.old × (t < THREADS) × (l < LOCKS) }
+        ensures { (b : List ℕ) → Does self.new 0 b b (release_mutex (tables self.old) t l) }
     {
-        let mut w = self.waits;
-        if w.mutex_owners[l] as usize == t {
-            w.mutex_owners[l] = Waits::NOBODY;
+        disown(&mut self.waits.mutex_owners, t, l);
+        self.waits.thread_holds[t] = self.waits.thread_holds[t].without(l);
+        let _ = self.waits.refresh_waiters_for_lock(&self.rwlock_readers, l);
+    }
+
+    // Clears the intent of every thread whose intent names l, in any mode.
+    fn clear_naming(&mut self, l: usize)
+        requires { InRange self.old.waits }
+        ensures { (self.new ≡ put_waits self.old (clear_naming self.old.waits l)) × InRange self.new.waits }
+    {
+        let intents = self.waits.thread_waits_for;
+        for (t, &intent) in intents.iter().enumerate() {
+            if names(intent, l) {
+                self.waits.clear_wait_intent(t);
+            }
         }
-        let holds = w.thread_holds[t];
-        w.thread_holds[t] = locks::without(holds, l);
-        if w.lock_waiters[l] != 0 {
-            let counts = self.counts();
-            let k = w.refresh_waiters_for_lock(&counts, l);
-            let graph = k.graph;
-            w.wait_for_graph = graph;
+    }
+
+    // Takes l out of all holds and empties its waiters.
+    pub(crate) fn purge(&mut self, l: usize)
+        requires { InRange self.old.waits × (l < LOCKS) }
+        ensures { (self.new ≡ put_waits self.old (purge self.old.waits l)) × InRange self.new.waits }
+    {
+        for t in 0..THREADS {
+            self.waits.thread_holds[t] = self.waits.thread_holds[t].without(l);
         }
-        self.with_waits(w, 0)
+        self.waits.lock_waiters[l] = 0;
     }
 
     // md: the mutex l is gone. Makes nobody its owner, clears every intent that names l, takes l out of all holds, and
     // empties its waiters. Refreshes nothing.
-    pub fn destroy_mutex(self, l: usize) -> Done
-        requires { Valid self × (l < LOCKS) }
-        ensures { (b : List ℕ) → Does result b b (destroy_mutex (tables self) l) }
+    pub fn destroy_mutex(&mut self, l: usize)
+        requires { Valid self.old × (l < LOCKS) }
+        ensures { (b : List ℕ) → Does self.new 0 b b (destroy_mutex (tables self.old) l) }
     {
-        let w0 = self.waits;
-        let a = owned(w0, NOBODY, l);
-        let b = cleared(a, l);
-        let w = purged(b, l);
-        self.with_waits(w, 0)
+        self.waits.mutex_owners[l] = Waits::NOBODY;
+        self.clear_naming(l);
+        self.purge(l);
     }
 }

@@ -1,15 +1,17 @@
-// The state: fixed tables, passed by value.
-ghost use Rattle.std.specs.Prelude.{◌≡◌};
+// The state: fixed tables, which the events change in place.
+ghost use Rattle.std.specs.Prelude.{◌≡◌, [], ◌∷◌, ◌++◌, ◌<◌, slice_get, IfSome};
+ghost use Rattle.sets.specs.Limits.{THREADS, LOCKS};
+ghost use Rattle.detector.specs.Limits.{PLACES};
 ghost use Rattle.detector.specs.Tables as rules;
-ghost use Rattle.detector.specs.State.{tables, Valid};
-ghost use Rattle.detector.specs.Code.{put_waits, put_counts};
+ghost use Rattle.detector.specs.Condvar.{leave};
+ghost use Rattle.detector.specs.State.{pairs_of, tables, Queued, Valid};
+ghost use Rattle.detector.specs.Code.{empty_queue, tail_of};
 
-use crate::reply::Done;
 use sets::{LOCKS, THREADS};
-use waits::{Judged, Waits};
+use waits::Waits;
 
 // A thread in a condvar's queue, and the lock with which it waits.
-#[derive(Clone, Copy)]
+#[derive(Clone, Copy, PartialEq, Eq)]
 pub struct Pair {
     pub thread: u8,
     pub lock: u8,
@@ -29,17 +31,14 @@ pub struct CvWait {
     pub lock: u8,
 }
 
-// The condvars: each one's queue, and each thread's cv wait. All numbers are bytes, because with a wider one among them
-// the compiler would copy these tables with every event.
+// The condvars: each one's queue, and each thread's cv wait.
 #[derive(Clone, Copy)]
 pub struct Condvars {
     pub cv_waiters: [Queue; Detector::CONDVARS],
     pub thread_wait_cv: [CvWait; THREADS],
 }
 
-// The state: the waits, the woken threads, the reader counts, whose places `waits::place` gives, and the condvars. With
-// `cv_woken` between the waits and the counts, and the counts next to the condvars, the compiler can leave alone what
-// an event does not touch.
+// The state: the waits, the woken threads, the reader counts, whose places `waits::place` gives, and the condvars.
 #[derive(Clone, Copy)]
 pub struct Detector {
     pub waits: Waits,
@@ -48,16 +47,86 @@ pub struct Detector {
     pub condvars: Condvars,
 }
 
+impl Pair {
+    // Stands at the places of a queue that are not in use.
+    pub const NONE: Pair = Pair { thread: 0, lock: 0 };
+}
+
 impl Queue {
     // How many pairs a queue has room for.
     pub const PLACES: usize = 32;
     // The length of a full queue.
     pub const FULL: u8 = Queue::PLACES as u8;
+
+    // Returns the empty queue, with 0 at every place.
+    pub(crate) fn new() -> Queue
+        ensures { (result ≡ empty_queue) × Queued result }
+    {
+        Queue {
+            pairs: [Pair::NONE; Queue::PLACES],
+            len: 0,
+        }
+    }
+
+    // Returns the pairs of the queue, in order.
+    pub fn pairs(&self) -> &[Pair]
+        requires { Queued self.now }
+        ensures { result.now ≡ pairs_of self.now }
+    {
+        &self.pairs[..usize::from(self.len)]
+    }
+
+    // Puts a pair at the end of the queue.
+    pub(crate) fn push(&mut self, pair: Pair)
+        requires { Queued self.old × (self.old.len < PLACES) × (pair.thread < THREADS) × (pair.lock < LOCKS) }
+        ensures { (pairs_of self.new ≡ pairs_of self.old ++ pair ∷ []) × Queued self.new }
+    {
+        self.pairs[usize::from(self.len)] = pair;
+        self.len += 1;
+    }
+
+    // Takes the first pair out of the queue and returns it, or None if the queue is empty.
+    pub(crate) fn pop(&mut self) -> Option<Pair>
+        requires { Queued self.old }
+        ensures { (result ≡ slice_get (pairs_of self.old) 0) × (pairs_of self.new ≡ tail_of (pairs_of self.old)) × Queued self.new × IfSome result (λ p. (p.thread < THREADS) × (p.lock < LOCKS)) }
+    {
+        let (first, others) = self.pairs().split_first()?;
+        let first = *first;
+        let mut left = Queue::new();
+        for &pair in others {
+            left.push(pair);
+        }
+        *self = left;
+        Some(first)
+    }
+
+    // Takes every pair (t, l) out of the queue.
+    pub(crate) fn leave(&mut self, t: usize, l: usize)
+        requires { Queued self.old × (t < THREADS) × (l < LOCKS) }
+        ensures { (pairs_of self.new ≡ leave t l (pairs_of self.old)) × Queued self.new }
+    {
+        let gone = Pair {
+            thread: t as u8,
+            lock: l as u8,
+        };
+        let mut left = Queue::new();
+        for &pair in self.pairs() {
+            if pair != gone {
+                left.push(pair);
+            }
+        }
+        *self = left;
+    }
 }
 
 impl CvWait {
     // Stands for no condvar.
     pub const NONE: u8 = Detector::CONDVARS as u8;
+    // Stands for no cv wait.
+    pub const ABSENT: CvWait = CvWait {
+        condvar: CvWait::NONE,
+        lock: 0,
+    };
 }
 
 impl Detector {
@@ -74,70 +143,14 @@ impl Detector {
     pub fn new() -> Detector
         ensures { (tables result ≡ rules.empty) × Valid result }
     {
-        let waits = Waits::new();
         Detector {
-            waits,
+            waits: Waits::new(),
             cv_woken: 0,
-            rwlock_readers: [0u8; Waits::COUNTS],
+            rwlock_readers: [0; Waits::COUNTS],
             condvars: Condvars {
-                cv_waiters: [Queue {
-                    pairs: [Pair { thread: 0, lock: 0 }; Queue::PLACES],
-                    len: 0,
-                }; Detector::CONDVARS],
-                thread_wait_cv: [CvWait {
-                    condvar: CvWait::NONE,
-                    lock: 0,
-                }; THREADS],
+                cv_waiters: [Queue::new(); Detector::CONDVARS],
+                thread_wait_cv: [CvWait::ABSENT; THREADS],
             },
-        }
-    }
-
-    // Returns the state with other waits, and the number of reports.
-    pub(crate) fn with_waits(self, waits: Waits, reports: usize) -> Done
-        ensures { result ≡ put_waits self waits reports }
-    {
-        let cv_woken = self.cv_woken;
-        let rwlock_readers = self.rwlock_readers;
-        let condvars = self.condvars;
-        let detector = Detector {
-            waits,
-            cv_woken,
-            rwlock_readers,
-            condvars,
-        };
-        Done { detector, reports }
-    }
-
-    // Returns the state after a path was judged, and the number of reports.
-    pub(crate) fn with_judged(self, d: Judged) -> Done
-        ensures { result ≡ put_waits self d.waits d.reports }
-    {
-        let w = d.waits;
-        self.with_waits(w, d.reports)
-    }
-
-    // Returns the reader counts.
-    pub(crate) fn counts(self) -> [u8; Waits::COUNTS]
-        ensures { result ≡ self.rwlock_readers }
-    {
-        self.rwlock_readers
-    }
-
-    // Returns the state with other waits and other counts, and no report.
-    pub(crate) fn with_counts(self, waits: Waits, rwlock_readers: [u8; Waits::COUNTS]) -> Done
-        ensures { result ≡ put_counts self waits rwlock_readers }
-    {
-        let cv_woken = self.cv_woken;
-        let condvars = self.condvars;
-        let detector = Detector {
-            waits,
-            cv_woken,
-            rwlock_readers,
-            condvars,
-        };
-        Done {
-            detector,
-            reports: 0,
         }
     }
 }

@@ -1,156 +1,90 @@
 // Two totals of the end line: how many edges are stored, and how many threads are stuck.
 ghost use Rattle.std.specs.Prelude.{◌≡◌, ◌<◌, length};
 ghost use Rattle.sets.specs.Limits.{THREADS};
-ghost use Rattle.sets.specs.Sets.{upward};
 ghost use Rattle.sets.specs.Below.{those};
-ghost use Rattle.graph.specs.Search.{find_path};
-ghost use Rattle.waits.specs.Tables.{InRange, intent_of};
+ghost use Rattle.waits.specs.Tables.{intent_of};
 ghost use Rattle.waits.specs.Owners.{blocking};
 ghost use Rattle.detector.specs.State.{tables, Valid};
 ghost use Rattle.detector.specs.Promises.{stuck_of};
-ghost use Rattle.detector.specs.Stuck.{mask_of, true_waits, found, any_back, stuck_in, stuck_count, edge_count};
+ghost use Rattle.detector.specs.Stuck.{mask_of, true_waits, stuck_in, stuck_count, edge_count};
 
-use crate::reply::StuckReply;
+use crate::refused::Refusal;
 use crate::state::Detector;
-use graph::{Way, find_path};
-use sets::{THREADS, threads};
-use waits::{Awaits, Waits};
-
-// Returns the threads for which t truly waits.
-fn blocking_mask(w: Waits, counts: &[u8; Waits::COUNTS], t: usize) -> u32
-    requires { InRange w × (t < THREADS) }
-    ensures { result ≡ mask_of (blocking counts.now w (intent_of w t)) }
-{
-    let slot = w.thread_waits_for[t];
-    let awaits = slot.awaits;
-    let Awaits::For(i) = awaits else {
-        return 0;
-    };
-    let o = w.incompatible_owners(counts, i);
-    let readers = o.readers;
-    let last = o.last;
-    if last < THREADS {
-        return threads::with(readers, last);
-    }
-    readers
-}
-
-// Returns for each thread the threads for which it truly waits.
-fn rows_of(w: Waits, counts: &[u8; Waits::COUNTS]) -> [u32; THREADS]
-    requires { InRange w }
-    ensures { result ≡ true_waits counts.now w }
-{
-    let mut rows = [0u32; THREADS];
-    let mut t = 0;
-    while t < THREADS {
-        rows[t] = blocking_mask(w, counts, t);
-        t += 1;
-    }
-    rows
-}
-
-// Returns true if there is a path from u to t.
-fn leads(rows: [u32; THREADS], u: usize, t: usize) -> bool
-    requires { u < THREADS }
-    ensures { result ≡ found (find_path rows u t) }
-{
-    let s = find_path(rows, u, t);
-    let way = s.way;
-    let Way::Found = way else {
-        return false;
-    };
-    true
-}
-
-// Returns true if there is a path to t from a thread of the set.
-fn any_leads(rows: [u32; THREADS], set: u32, t: usize) -> bool
-    ensures { result ≡ any_back rows t (upward THREADS set) }
-{
-    let mut left = set;
-    while left != 0 {
-        let u = threads::lowest(left);
-        if leads(rows, u, t) {
-            return true;
-        }
-        left = threads::rest(left);
-    }
-    false
-}
+use graph::find_path;
+use sets::{Set, THREADS};
 
 // Returns true if t is stuck: there is a path back to t from a thread for which it truly waits.
-fn is_stuck(rows: [u32; THREADS], t: usize) -> bool
+fn is_stuck(rows: &[u32; THREADS], t: usize) -> bool
     requires { t < THREADS }
-    ensures { result ≡ stuck_in rows t }
+    ensures { result ≡ stuck_in rows.now t }
 {
-    any_leads(rows, rows[t], t)
+    rows[t].upward().any(|u| find_path(rows, u, t).is_some())
 }
 
 // Returns how many threads are stuck.
-fn count_stuck(rows: [u32; THREADS]) -> usize
-    ensures { result ≡ length (those (stuck_in rows) THREADS) }
+fn count_stuck(rows: &[u32; THREADS]) -> usize
+    ensures { result ≡ length (those (stuck_in rows.now) THREADS) }
 {
-    let mut n: usize = 0;
-    let mut t = 0;
-    while t < THREADS {
-        if is_stuck(rows, t) {
-            n += 1;
-        }
-        t += 1;
-    }
-    n
+    (0..THREADS).filter(|&t| is_stuck(rows, t)).count()
 }
 
 // Returns how many edges the rows have.
-fn count_edges(rows: [u32; THREADS]) -> usize
-    ensures { result ≡ edge_count rows }
+fn count_edges(rows: &[u32; THREADS]) -> usize
+    ensures { result ≡ edge_count rows.now }
 {
-    let mut n: usize = 0;
-    let mut t = 0;
-    while t < THREADS {
-        n += u32::count_ones(rows[t]) as usize;
-        t += 1;
-    }
-    n
+    rows.iter().map(|row| row.count_ones() as usize).sum()
 }
 
 impl Detector {
-    // Returns for each thread the threads for which it truly waits in this state.
-    fn true_waits(self) -> [u32; THREADS]
-        requires { Valid self }
-        ensures { result ≡ true_waits self.rwlock_readers self.waits }
+    // Returns the threads for which t truly waits.
+    fn blocking_mask(&self, t: usize) -> u32
+        requires { Valid self.now × (t < THREADS) }
+        ensures { result ≡ mask_of (blocking self.now.rwlock_readers self.now.waits (intent_of self.now.waits t)) }
     {
-        let w = self.waits;
-        let counts = self.rwlock_readers;
-        rows_of(w, &counts)
+        let Some(i) = self.waits.thread_waits_for[t] else {
+            return 0;
+        };
+        let owners = self.waits.incompatible_owners(&self.rwlock_readers, i);
+        match owners.last {
+            Some(last) => owners.readers.with(last),
+            None => owners.readers,
+        }
+    }
+
+    // Returns for each thread the threads for which it truly waits.
+    fn true_waits(&self) -> [u32; THREADS]
+        requires { Valid self.now }
+        ensures { result ≡ true_waits self.now.rwlock_readers self.now.waits }
+    {
+        let mut rows = [0; THREADS];
+        for t in 0..THREADS {
+            rows[t] = self.blocking_mask(t);
+        }
+        rows
     }
 
     // Returns how many threads are stuck in a state that is known to be valid.
-    pub fn stuck_within(self) -> usize
-        requires { Valid self }
-        ensures { result ≡ stuck_count (tables self) }
+    pub fn stuck_within(&self) -> usize
+        requires { Valid self.now }
+        ensures { result ≡ stuck_count (tables self.now) }
     {
-        let rows = self.true_waits();
-        count_stuck(rows)
+        count_stuck(&self.true_waits())
     }
 
     // Returns how many threads are stuck, or refusal 2 if the state is not valid.
-    pub fn stuck(self) -> StuckReply
-        ensures { result ≡ stuck_of self }
+    pub fn stuck(&self) -> Result<usize, Refusal>
+        ensures { result ≡ stuck_of self.now }
     {
-        if self.is_valid() {
-            let n = self.stuck_within();
-            return StuckReply::Threads(n);
+        if !self.is_valid() {
+            return Err(Refusal::State);
         }
-        StuckReply::Refused(2)
+        Ok(self.stuck_within())
     }
 
     // Returns how many edges are stored.
-    pub fn edges_stored(self) -> usize
-        ensures { result ≡ edge_count self.waits.wait_for_graph.edges }
+    pub fn edges_stored(&self) -> usize
+        ensures { result ≡ edge_count self.now.waits.wait_for_graph.edges }
     {
-        let w = self.waits;
-        let g = w.wait_for_graph;
-        let edges = g.edges;
-        count_edges(edges)
+        count_edges(&self.waits.wait_for_graph.edges)
     }
 }

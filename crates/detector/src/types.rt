@@ -1,15 +1,15 @@
 // Every state that the code can have is `Typed`. `typed` does nothing and is here for its contract alone. The prover
 // knows what the types say of a struct by itself, but not of one in an array, so each struct of a table is read out.
-ghost use Rattle.std.specs.Prelude.{ℕ, ◌<◌, get_or};
+ghost use Rattle.std.specs.Prelude.{ℕ, ◌<◌, get_or, None};
 ghost use Rattle.detector.specs.Limits.{CONDVARS};
-ghost use Rattle.waits.specs.Tables.{no_slot, lock_of};
+ghost use Rattle.waits.specs.Tables.{lock_of};
 ghost use Rattle.detector.specs.Tables.{blank_cv_wait};
 ghost use Rattle.detector.specs.State.{blank_queue};
 ghost use Rattle.detector.specs.Typed.{TypedQueue, TypedCvWait, Typed};
 
 use crate::state::{CvWait, Detector, Pair, Queue};
 use sets::THREADS;
-use waits::Slot;
+use waits::{WaitIntent, lock_of};
 
 // Shows that the numbers of a pair are bytes.
 fn pair(p: Pair)
@@ -20,11 +20,8 @@ fn pair(p: Pair)
 fn queue(q: Queue)
     ensures { TypedQueue q }
 {
-    let mut k = 0;
-    while k < Queue::PLACES {
-        let p = q.pairs[k];
+    for p in q.pairs {
         pair(p);
-        k += 1;
     }
 }
 
@@ -32,11 +29,8 @@ fn queue(q: Queue)
 fn queues(qs: [Queue; Detector::CONDVARS])
     ensures { (c : ℕ) → c < CONDVARS → TypedQueue (get_or qs c blank_queue) }
 {
-    let mut c = 0;
-    while c < Detector::CONDVARS {
-        let q = qs[c];
+    for q in qs {
         queue(q);
-        c += 1;
     }
 }
 
@@ -49,23 +43,17 @@ fn cv_wait(v: CvWait)
 fn cv_waits(vs: [CvWait; THREADS])
     ensures { (t : ℕ) → TypedCvWait (get_or vs t blank_cv_wait) }
 {
-    let mut t = 0;
-    while t < THREADS {
-        let v = vs[t];
+    for v in vs {
         cv_wait(v);
-        t += 1;
     }
 }
 
-// Shows that the lock of every intent is a byte, since it is what `lock` returns.
-fn intents(ss: [Slot; THREADS])
-    ensures { (t : ℕ) → lock_of (get_or ss t no_slot).awaits < 256 }
+// Shows that the lock of every intent is a byte, since it is what `lock_of` returns.
+fn intents(is: [Option<WaitIntent>; THREADS])
+    ensures { (t : ℕ) → lock_of (get_or is t None) < 256 }
 {
-    let mut t = 0;
-    while t < THREADS {
-        let s = ss[t];
-        s.lock();
-        t += 1;
+    for i in is {
+        lock_of(i);
     }
 }
 
@@ -73,12 +61,7 @@ fn intents(ss: [Slot; THREADS])
 pub fn typed(d: Detector)
     ensures { Typed d }
 {
-    let w = d.waits;
-    let condvars = d.condvars;
-    let slots = w.thread_waits_for;
-    let waiters = condvars.cv_waiters;
-    let waits = condvars.thread_wait_cv;
-    intents(slots);
-    queues(waiters);
-    cv_waits(waits);
+    intents(d.waits.thread_waits_for);
+    queues(d.condvars.cv_waiters);
+    cv_waits(d.condvars.thread_wait_cv);
 }

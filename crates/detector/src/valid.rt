@@ -1,16 +1,15 @@
 // The test of a lent state for refusal 2: numbers in range, no queue too long, and 0 at every place not in use.
 ghost use Rattle.std.specs.Prelude.{◌≡◌, true, ℕ, ◌<◌, ltb, get_or, length};
+ghost use Rattle.std.specs.List.{list_all};
 ghost use Rattle.sets.specs.Limits.{THREADS, LOCKS};
 ghost use Rattle.detector.specs.Limits.{CONDVARS, PLACES};
 ghost use Rattle.sets.specs.Below.{every};
-ghost use Rattle.graph.specs.Search.{row};
-ghost use Rattle.waits.specs.Tables.{lock_of, intent_of};
-ghost use Rattle.detector.specs.Tables.{blank_cv_wait};
+ghost use Rattle.waits.specs.Tables.{InRange, lock_of};
 ghost use Rattle.detector.specs.State.{blank_queue, range_test, place_test, queue_test, cv_wait_test, valid_test, Valid};
 
 use crate::state::{CvWait, Detector, Pair, Queue};
 use sets::{LOCKS, THREADS};
-use waits::Waits;
+use waits::{WaitIntent, Waits, lock_of};
 
 // The lowest byte that is no thread.
 const THREADS_END: u8 = THREADS as u8;
@@ -18,53 +17,28 @@ const THREADS_END: u8 = THREADS as u8;
 // The lowest byte that is no lock.
 const LOCKS_END: u8 = LOCKS as u8;
 
-// The lowest byte that is neither a thread nor nobody.
-const OWNERS_END: u8 = Waits::NOBODY + 1;
-
-// Returns true if every intent names a lock below 64.
-fn intents_in_range(w: Waits) -> bool
-    ensures { result ≡ every (λ t. ltb (lock_of (intent_of w t)) LOCKS) THREADS }
+// Returns true if every intent names a lock below 64. The prover does not know that an array of intents in a lent struct
+// has 32 places, so the contract states it too.
+fn intents_in_range(intents: &[Option<WaitIntent>; THREADS]) -> bool
+    ensures { (result ≡ list_all (λ i. ltb (lock_of i) LOCKS) intents.now) × (length intents.now ≡ THREADS) }
 {
-    let mut t = 0;
-    while t < THREADS {
-        let slot = w.thread_waits_for[t];
-        if slot.lock() < LOCKS_END {
-            t += 1;
-        } else {
-            return false;
-        }
-    }
-    true
+    intents.iter().all(|&i| lock_of(i) < LOCKS_END)
 }
 
 // Returns true if the table has a thread below 32 or nobody for every lock.
-fn threads_in_range(of: [u8; LOCKS]) -> bool
-    ensures { result ≡ every (λ l. ltb (row of l) 33) LOCKS }
+fn threads_in_range(of: &[u8; LOCKS]) -> bool
+    ensures { result ≡ list_all (λ o. ltb o 33) of.now }
 {
-    let mut l = 0;
-    while l < LOCKS {
-        if of[l] < OWNERS_END {
-            l += 1;
-        } else {
-            return false;
-        }
-    }
-    true
+    of.iter().all(|&thread| thread <= Waits::NOBODY)
 }
 
 // Returns true if the intents, the owners and the writers are in range.
-fn waits_in_range(w: Waits) -> bool
-    ensures { result ≡ range_test w }
+fn waits_in_range(w: &Waits) -> bool
+    ensures { (result ≡ range_test w.now) × (result ≡ true → InRange w.now) }
 {
-    let owners = w.mutex_owners;
-    let writers = w.rwlock_writer;
-    if intents_in_range(w) {
-        if threads_in_range(owners) {
-            return threads_in_range(writers);
-        }
-        return false;
-    }
-    false
+    intents_in_range(&w.thread_waits_for)
+        && threads_in_range(&w.mutex_owners)
+        && threads_in_range(&w.rwlock_writer)
 }
 
 // Returns true if the pair p may be at place k of a queue of n pairs: in range before the queue's end, 0 after it.
@@ -72,15 +46,10 @@ fn place_valid(n: usize, k: usize, p: Pair) -> bool
     ensures { result ≡ place_test n k p }
 {
     if k < n {
-        if p.thread < THREADS_END {
-            return p.lock < LOCKS_END;
-        }
-        return false;
+        p.thread < THREADS_END && p.lock < LOCKS_END
+    } else {
+        p == Pair::NONE
     }
-    if p.thread == 0 {
-        return p.lock == 0;
-    }
-    false
 }
 
 // Returns true if a queue is valid: at most 32 pairs, all in range, and 0 after its end. The prover knows that a queue
@@ -88,32 +57,20 @@ fn place_valid(n: usize, k: usize, p: Pair) -> bool
 fn queue_valid(q: Queue) -> bool
     ensures { (result ≡ queue_test q) × (length q.pairs ≡ PLACES) }
 {
-    let n = q.len as usize;
-    if Queue::PLACES < n {
-        return false;
-    }
-    let mut k = 0;
-    while k < Queue::PLACES {
-        let p = q.pairs[k];
-        if place_valid(n, k, p) {
-            k += 1;
-        } else {
-            return false;
-        }
-    }
-    true
+    let n = usize::from(q.len);
+    n <= Queue::PLACES
+        && q.pairs
+            .iter()
+            .enumerate()
+            .all(|(k, &p)| place_valid(n, k, p))
 }
 
 // Returns true if every queue is valid.
-fn queues_valid(qs: [Queue; Detector::CONDVARS]) -> bool
-    ensures { (result ≡ every (λ c. queue_test (get_or qs c blank_queue)) CONDVARS) × (result ≡ true → (c : ℕ) → c < CONDVARS → length (get_or qs c blank_queue).pairs ≡ PLACES) }
+fn queues_valid(qs: &[Queue; Detector::CONDVARS]) -> bool
+    ensures { (result ≡ every (λ c. queue_test (get_or qs.now c blank_queue)) CONDVARS) × (result ≡ true → (c : ℕ) → c < CONDVARS → length (get_or qs.now c blank_queue).pairs ≡ PLACES) }
 {
-    let mut c = 0;
-    while c < Detector::CONDVARS {
-        let q = qs[c];
-        if queue_valid(q) {
-            c += 1;
-        } else {
+    for &q in qs {
+        if !queue_valid(q) {
             return false;
         }
     }
@@ -125,45 +82,26 @@ fn cv_wait_valid(v: CvWait) -> bool
     ensures { result ≡ cv_wait_test v }
 {
     if v.condvar == CvWait::NONE {
-        return v.lock == 0;
+        v.lock == 0
+    } else {
+        v.condvar < CvWait::NONE && v.lock < LOCKS_END
     }
-    if v.condvar < CvWait::NONE {
-        return v.lock < LOCKS_END;
-    }
-    false
 }
 
 // Returns true if every cv wait is valid.
-fn cv_waits_valid(vs: [CvWait; THREADS]) -> bool
-    ensures { result ≡ every (λ t. cv_wait_test (get_or vs t blank_cv_wait)) THREADS }
+fn cv_waits_valid(vs: &[CvWait; THREADS]) -> bool
+    ensures { result ≡ list_all cv_wait_test vs.now }
 {
-    let mut t = 0;
-    while t < THREADS {
-        let v = vs[t];
-        if cv_wait_valid(v) {
-            t += 1;
-        } else {
-            return false;
-        }
-    }
-    true
+    vs.iter().all(|&v| cv_wait_valid(v))
 }
 
 impl Detector {
     // Returns true if the state is valid. A step refuses any other state with 2.
-    pub fn is_valid(self) -> bool
-        ensures { (result ≡ valid_test self) × (result ≡ true → Valid self) }
+    pub fn is_valid(&self) -> bool
+        ensures { (result ≡ valid_test self.now) × (result ≡ true → Valid self.now) }
     {
-        let w = self.waits;
-        let condvars = self.condvars;
-        let queues = condvars.cv_waiters;
-        let cv_waits = condvars.thread_wait_cv;
-        if waits_in_range(w) {
-            if queues_valid(queues) {
-                return cv_waits_valid(cv_waits);
-            }
-            return false;
-        }
-        false
+        waits_in_range(&self.waits)
+            && queues_valid(&self.condvars.cv_waiters)
+            && cv_waits_valid(&self.condvars.thread_wait_cv)
     }
 }

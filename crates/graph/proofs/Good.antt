@@ -3,7 +3,7 @@ use mathlib.Core.Path.{◌≡◌, refl, sym, ap, ◌∙◌}
 use mathlib.Core.Logic.{inl, inr, ◌↔◌, ⊎_elim}
 use mathlib.Core.List.{List, [], ◌∷◌, foldl}
 use mathlib.Core.Bool.{Bool, true, false, cond}
-use mathlib.Core.Option.{Option, none, some}
+use Rattle.std.specs.Prelude.{Option, None, Some}
 use Prim.Native.Nat.{ℕ, zero, suc, ◌<◌, ◌^◌}
 use native.Mathlib.Omega.{arith}
 use native.Mathlib.Decide.{ℕ_discrete}
@@ -205,18 +205,18 @@ cut_within t i j h x y d = go (ℕ_discrete x i) (ℕ_discrete y j)
 -- Adding an edge has three outcomes: the edge was there, a path shows that it would close a cycle, or it is stored.
 -- What is true in each case is true of the result.
 pub add_cases : (g : WaitForGraph) (a b : ℕ) → Sized g → b < 32 → (P : Adding → Type 0)
-    → (Edge g.edges a b → P (adding g none))
-    → ((p : List ℕ) → Found (Edge g.edges) b a p → P (adding g (some p)))
-    → ((Walk (Edge g.edges) b a → ⊥) → P (adding (stored g a b) none))
+    → (Edge g.edges a b → P (adding g None))
+    → ((p : List ℕ) → Found (Edge g.edges) b a p → P (adding g (Some p)))
+    → ((Walk (Edge g.edges) b a → ⊥) → P (adding (stored g a b) None))
     → P (add_edge g a b)
 unfolding add_edge closing
 add_cases g a b s hb P c₁ c₂ c₃ = go (has (row g.edges a) b) refl
   where
     then : (o : Option (List ℕ)) → find_path g.edges b a ≡ o → P (closing g a b o)
-    then none e = c₃ (none_found g.edges s.narrow b a hb e)
-    then (some p) e = c₂ p (path_found_lem g.edges s.narrow b a hb p e)
+    then None e = c₃ (none_found g.edges s.narrow b a hb e)
+    then (Some p) e = c₂ p (path_found_lem g.edges s.narrow b a hb p e)
 
-    go : (t : Bool) → has (row g.edges a) b ≡ t → P (cond t (adding g none) (closing g a b (find_path g.edges b a)))
+    go : (t : Bool) → has (row g.edges a) b ≡ t → P (cond t (adding g None) (closing g a b (find_path g.edges b a)))
     go true e = c₁ (has_bit _ _ e)
     go false e = then (find_path g.edges b a) refl
 

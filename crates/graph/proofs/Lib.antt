@@ -1,5 +1,5 @@
 -- Laws of the definitions, and the theorems that follow from them.
--- The first three files are about the code's records.
+-- The first three files are about what the code keeps.
 pub mod Trails
 pub mod Owners
 pub mod Fits

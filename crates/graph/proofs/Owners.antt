@@ -1,50 +1,33 @@
--- The code adds edges to owners as the rule does.
-use mathlib.Core.Path.{◌≡◌, refl, sym, ap, ◌∙◌}
-use mathlib.Core.List.{List, [], ◌∷◌, foldl}
-use mathlib.Core.Option.{Option, none, some}
+-- What adding an edge gives by what the search found, and which of two paths is kept.
+use mathlib.Core.Path.{◌≡◌, refl, sym, ap}
+use mathlib.Core.Bool.{true, false, false≢true}
+use mathlib.Core.List.{List}
 use Prim.Native.Nat.{ℕ}
-use native.Mathlib.Omega.{arith}
-use Rattle.graph.specs.Graph.{Adding, adding, closing, stored, first, add_next}
-use Rattle.graph.specs.Code.{sought_of, sooner, added, add_next_c}
-use Rattle.graph.specs.declared.wait_for_graph.Added.{Added}
+use Rattle.std.specs.Prelude.{Option, None, Some, is_some}
+use Rattle.std.specs.Option.{option_or}
+use Rattle.graph.specs.Graph.{Adding, adding, closing, stored, add_edge, first, add_next}
 use Rattle.graph.specs.declared.wait_for_graph.WaitForGraph.{WaitForGraph}
-use Rattle.graph.specs.declared.path.Way.TheVariants.{Found, Missing}
-
--- ---- Which case of a search's result it is
-
-never : Found ≡ Missing → ⊥
-never e = let z : ◌≡◌ {A = ℕ} 0 1 = cc in omega arith
 
 module _ (g : WaitForGraph) (a b : ℕ) where
   -- If a path was found, the graph stays as it is; if none was, the edge is stored.
-  pub closes : (w : Option (List ℕ)) → (sought_of w).way ≡ Found → added (closing g a b w) ≡ added (adding g w)
+  pub closes : (w : Option (List ℕ)) → is_some w ≡ true → closing g a b w ≡ adding g w
   unfolding closing
-  closes (some p) e = refl
-  closes none e = absurd (never (sym e))
+  closes (Some p) e = refl
+  closes None e = absurd (false≢true e)
 
-  pub stores : (w : Option (List ℕ)) → (sought_of w).way ≡ Missing → added (closing g a b w) ≡ added (adding (stored g a b) w)
+  pub stores : (w : Option (List ℕ)) → is_some w ≡ false → closing g a b w ≡ adding (stored g a b) w
   unfolding closing
-  stores (some p) e = absurd (never e)
-  stores none e = refl
+  stores (Some p) e = absurd (false≢true (sym e))
+  stores None e = refl
 
--- ---- The first path is kept
+-- Of two paths `or` keeps the one that the rule keeps.
+pub sooner_first : (p q : Option (List ℕ)) → option_or p q ≡ first p q
+sooner_first (Some p) q = refl
+sooner_first None q = refl
 
--- The code keeps the first path as the rule does.
-pub sooner_first : (p q : Option (List ℕ)) → sooner (sought_of p) (sought_of q) ≡ sought_of (first p q)
-sooner_first (some p) q = refl
-sooner_first none q = refl
-
--- One more edge in the code's record is one more edge by the rule.
-pub next_added : (t : ℕ) (k : Adding) (o : ℕ) → add_next_c t (added k) o ≡ added (add_next t k o)
-unfolding add_next_c add_next
-next_added t k o = rw sooner_first
-
--- Adds an edge from t to each of the owners, in the code's records.
-unfoldable pub add_all_c : ℕ → Added → List ℕ → Added
-add_all_c t a os = foldl (add_next_c t) a os
-
--- The code's walk over all owners gives the record of the rule's result.
-pub all_added : (t : ℕ) (os : List ℕ) (k : Adding) → add_all_c t (added k) os ≡ added (foldl (add_next t) k os)
-unfolding add_all_c
-all_added t [] k = refl
-all_added t (o ∷ os) k = ap (λ z. foldl (add_next_c t) z os) (next_added t k o) ∙ all_added t os (add_next t k o)
+-- One more edge in the code is one more edge by the rule: the path that it gives comes after those before.
+pub next_added : (t o : ℕ) (g h : WaitForGraph) (before now : Option (List ℕ)) → adding h now ≡ add_edge g t o
+    → adding h (option_or before now) ≡ add_next t (adding g before) o
+unfolding add_next
+next_added t o g h before now e =
+    rw sooner_first (ap (λ (k : Adding). adding k.graph (first before k.found)) e)

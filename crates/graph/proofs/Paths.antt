@@ -3,7 +3,8 @@ use mathlib.Core.Path.{◌≡◌, refl, sym, ap, ◌∙◌, subst}
 use mathlib.Core.Logic.{◌⊎◌, inl, inr, ⊎_elim}
 use mathlib.Core.List.{List, [], ◌∷◌, ◌++◌, foldl}
 use mathlib.Core.Bool.{Bool, true, false}
-use mathlib.Core.Option.{Option, none, some, some-injective}
+use Rattle.std.specs.Prelude.{Option, None, Some}
+use Rattle.std.proofs.lemmas.Option.{same_Some}
 use Prim.Native.Nat.{ℕ, zero, suc, ◌+◌, ◌<◌, ◌≤◌, ◌^◌}
 use native.Mathlib.Omega.{arith}
 use native.Mathlib.Decide.{ℕ_discrete, dec_lt}
@@ -24,7 +25,7 @@ use Rattle.graph.proofs.Trails.{search_met, search_on, search_end}
 use Rattle.graph.proofs.Ways.{leads_walk}
 
 -- None is no path.
-pub none_some : {x : List ℕ} → none ≡ some x → ⊥
+pub none_some : {x : List ℕ} → None ≡ Some x → ⊥
 none_some e = let z : ◌≡◌ {A = ℕ} 0 1 = cc in omega arith
 
 -- Returns the thread at the place k.
@@ -289,7 +290,7 @@ module _ (rows : List ℕ) (narrow : (i : ℕ) → row rows i < 2 ^ 32) (b a : �
   on p s = expand p s (row rows (th s p))
 
   -- If the search ends with a path, it is one from b to a.
-  search_found : (f p : ℕ) (s : Trail) (l : List ℕ) → Kept rows b a p s → search f rows a p s ≡ some l → Found (Edge rows) b a l
+  search_found : (f p : ℕ) (s : Trail) (l : List ℕ) → Kept rows b a p s → search f rows a p s ≡ Some l → Found (Edge rows) b a l
   unfolding search
   search_found zero p s l h r = absurd (none_some r)
   search_found (suc f) p s l h r =
@@ -298,12 +299,12 @@ module _ (rows : List ℕ) (narrow : (i : ℕ) → row rows i < 2 ^ 32) (b a : �
     where
       go : Dec (p < length s.threads) → Dec (th s p ≡ a) → (p < length s.threads → (th s p ≡ a → ⊥) → Found (Edge rows) b a l) → Found (Edge rows) b a l
       go (yes i) (yes e) next =
-          subst (Found (Edge rows) b a) (some-injective _ _ (sym (search_met f rows a p s i e) ∙ r)) (met_found rows b a p s h i e)
+          subst (Found (Edge rows) b a) (same_Some _ _ (sym (search_met f rows a p s i e) ∙ r)) (met_found rows b a p s h i e)
       go (yes i) (no n) next = next i n
       go (no i) d next = absurd (none_some (sym (search_end (suc f) rows a p s (omega arith)) ∙ r))
 
   -- If it ends with none, every thread found is expanded.
-  search_closed : (f p : ℕ) (s : Trail) → f + p ≡ 32 → Kept rows b a p s → search f rows a p s ≡ none
+  search_closed : (f p : ℕ) (s : Trail) → f + p ≡ 32 → Kept rows b a p s → search f rows a p s ≡ None
       → (u : Trail) × Grown s u × Kept rows b a (length u.threads) u
   unfolding expand
   search_closed zero p s e h r =
@@ -354,12 +355,12 @@ module _ (rows : List ℕ) (narrow : (i : ℕ) → row rows i < 2 ^ 32) (b a : �
 
 module _ (rows : List ℕ) (narrow : (i : ℕ) → row rows i < 2 ^ 32) (b a : ℕ) (small : b < 32) where
   -- A path that is found starts at b, ends at a, goes along edges, and has no thread twice.
-  pub path_found_lem : (p : List ℕ) → find_path rows b a ≡ some p → Found (Edge rows) b a p
+  pub path_found_lem : (p : List ℕ) → find_path rows b a ≡ Some p → Found (Edge rows) b a p
   unfolding find_path
   path_found_lem p r = search_found rows narrow b a 32 0 (begun b) p (begun_kept rows narrow b a small) r
 
   -- If none is found, no walk leads from b to a.
-  pub none_found : find_path rows b a ≡ none → Walk (Edge rows) b a → ⊥
+  pub none_found : find_path rows b a ≡ None → Walk (Edge rows) b a → ⊥
   unfolding find_path
   none_found r w =
       let k = begun_kept rows narrow b a small in
@@ -367,20 +368,20 @@ module _ (rows : List ℕ) (narrow : (i : ℕ) → row rows i < 2 ^ 32) (b a : �
       never rows narrow b a t.0 t.2 w refl (t.1.keeps b (bit_with_same 0 b))
 
   -- If a walk leads from b to a, a path is found.
-  pub way_found : Walk (Edge rows) b a → (p : List ℕ) × (find_path rows b a ≡ some p)
+  pub way_found : Walk (Edge rows) b a → (p : List ℕ) × (find_path rows b a ≡ Some p)
   way_found w = go (find_path rows b a) refl
     where
-      go : (o : Option (List ℕ)) → find_path rows b a ≡ o → (p : List ℕ) × (find_path rows b a ≡ some p)
-      go none e = absurd (none_found e w)
-      go (some p) e = (p, e)
+      go : (o : Option (List ℕ)) → find_path rows b a ≡ o → (p : List ℕ) × (find_path rows b a ≡ Some p)
+      go None e = absurd (none_found e w)
+      go (Some p) e = (p, e)
 
   -- So it is decided whether a walk leads from b to a.
   pub walk_cases : Walk (Edge rows) b a ⊎ (Walk (Edge rows) b a → ⊥)
   walk_cases = go (find_path rows b a) refl
     where
       go : (o : Option (List ℕ)) → find_path rows b a ≡ o → Walk (Edge rows) b a ⊎ (Walk (Edge rows) b a → ⊥)
-      go none e = inr (none_found e)
-      go (some p) e = inl (leads_walk (Edge rows) b a p (path_found_lem p e).leads)
+      go None e = inr (none_found e)
+      go (Some p) e = inl (leads_walk (Edge rows) b a p (path_found_lem p e).leads)
 
   -- With 32 rows the search needs no more than 32 turns.
   pub turns_enough : (k : ℕ) → search (32 + k) rows a 0 (begun b) ≡ find_path rows b a
@@ -406,6 +407,6 @@ pub path_short : (rows : List ℕ) → ((i : ℕ) → row rows i < 2 ^ 32) → (
 path_short rows narrow b a small p f = pigeon 32 p f.distinct (path_small rows narrow b a small p f)
 
 -- The path from a to a is a alone.
-pub self_found : (rows : List ℕ) (a : ℕ) → find_path rows a a ≡ some (a ∷ [])
+pub self_found : (rows : List ℕ) (a : ℕ) → find_path rows a a ≡ Some (a ∷ [])
 unfolding find_path way_back
 self_found rows a = search_met 31 rows a 0 (begun a) (lit< tt) refl

@@ -3,7 +3,8 @@
 use mathlib.Core.Path.{◌≡◌, refl, sym, ap, ◌∙◌, subst, subst₂}
 use mathlib.Core.Logic.{◌⊎◌, inl, inr, ◌↔◌}
 use mathlib.Core.List.{List, [], ◌∷◌, foldl}
-use mathlib.Core.Option.{Option, none, some, some-injective}
+use Rattle.std.specs.Prelude.{Option, None, Some}
+use Rattle.std.proofs.lemmas.Option.{same_Some}
 use Prim.Native.Nat.{ℕ, ◌<◌}
 use Rattle.sets.specs.Lists.{In, Distinct}
 use Rattle.graph.specs.Ways.{Walk, Within, Acyclic, Cycle, Plus, Fan, Ring, Found}
@@ -17,7 +18,7 @@ use Rattle.graph.proofs.Good.{add_cases, stored_edge, sized_stored, good_add}
 
 -- Adds an edge from t to each of the owners, with the first path of all.
 add_all : ℕ → WaitForGraph → List ℕ → Adding
-add_all t g [] = adding g none
+add_all t g [] = adding g None
 add_all t g (o ∷ os) =
     let r = add_edge g t o in
     let s = add_all t r.graph os in
@@ -25,33 +26,33 @@ add_all t g (o ∷ os) =
 
 -- Of three paths the first is the same, whichever two are looked at together.
 first_assoc : (p q r : Option (List ℕ)) → first (first p q) r ≡ first p (first q r)
-first_assoc (some p) q r = refl
-first_assoc none q r = refl
+first_assoc (Some p) q r = refl
+first_assoc None q r = refl
 
 -- The rule's walk, which goes on from a result, is this one.
 fold_all : (t : ℕ) (os : List ℕ) (k : Adding) → foldl (add_next t) k os ≡ adding (add_all t k.graph os).graph (first k.found (add_all t k.graph os).found)
 unfolding add_next add_all
 fold_all t [] k = ap (adding k.graph) (go k.found)
   where
-    go : (p : Option (List ℕ)) → p ≡ first p none
-    go (some p) = refl
-    go none = refl
+    go : (p : Option (List ℕ)) → p ≡ first p None
+    go (Some p) = refl
+    go None = refl
 fold_all t (o ∷ os) k =
     let r = add_edge k.graph t o in
     fold_all t os (add_next t k o) ∙ ap (adding (add_all t r.graph os).graph) (first_assoc k.found r.found (add_all t r.graph os).found)
 
 owners_all : (t : ℕ) (g : WaitForGraph) (os : List ℕ) → add_owners t g os ≡ add_all t g os
 unfolding add_owners
-owners_all t g os = fold_all t os (adding g none)
+owners_all t g os = fold_all t os (adding g None)
 
 -- If `first` gives none, both are none; if it gives a path, that is the first one, or the second if the first is none.
-first_none : (p q : Option (List ℕ)) → first p q ≡ none → (p ≡ none) × (q ≡ none)
-first_none none q e = (refl, e)
-first_none (some p) q e = absurd (none_some (sym e))
+first_none : (p q : Option (List ℕ)) → first p q ≡ None → (p ≡ None) × (q ≡ None)
+first_none None q e = (refl, e)
+first_none (Some p) q e = absurd (none_some (sym e))
 
-first_some : (p q : Option (List ℕ)) (r : List ℕ) → first p q ≡ some r → (p ≡ some r) ⊎ ((p ≡ none) × (q ≡ some r))
-first_some none q r e = inr (refl, e)
-first_some (some p) q r e = inl e
+first_some : (p q : Option (List ℕ)) (r : List ℕ) → first p q ≡ Some r → (p ≡ Some r) ⊎ ((p ≡ None) × (q ≡ Some r))
+first_some None q r e = inr (refl, e)
+first_some (Some p) q r e = inl e
 
 -- States that every owner is below 32.
 abbrev pub Owned : List ℕ → Type 0
@@ -64,8 +65,8 @@ Owned os = (o : ℕ) → In o os → o < 32
 record Grown (t o : ℕ) (g : WaitForGraph) (r : Adding) : Type 0 where
   pub keeps : Within (Edge g.edges) (Edge r.graph.edges)
   pub only : Within (Edge r.graph.edges) (Plus (Edge g.edges) t o)
-  pub quiet : r.found ≡ none → Edge r.graph.edges t o
-  pub loud : (p : List ℕ) → r.found ≡ some p → Found (Edge g.edges) o t p
+  pub quiet : r.found ≡ None → Edge r.graph.edges t o
+  pub loud : (p : List ℕ) → r.found ≡ Some p → Found (Edge g.edges) o t p
   pub free : (Walk (Edge g.edges) o t → ⊥) → Edge r.graph.edges t o
   pub shut : Edge r.graph.edges t o → Edge g.edges t o ⊎ (Walk (Edge g.edges) o t → ⊥)
 
@@ -77,7 +78,7 @@ grown t o g s j h = add_cases g t o s h (Grown t o g)
       keeps = λ x y e. e;
       only = λ x y e. inl e;
       quiet = λ q. absurd (none_some (sym q));
-      loud = λ p' q. subst (λ (l : List ℕ). Found (Edge g.edges) o t l) (some-injective p p' q) f;
+      loud = λ p' q. subst (λ (l : List ℕ). Found (Edge g.edges) o t l) (same_Some p p' q) f;
       free = λ w. absurd (w (leads_walk (Edge g.edges) o t p f.leads));
       shut = λ e. inl e;
     })
@@ -109,7 +110,7 @@ module _ (t : ℕ) (j : t < 32) where
   good_all (o ∷ os) g h k = good_all os (add_edge g t o).graph (λ p m. h p (inr m)) (good_add g t o j (h o (inl refl)) k)
 
   -- If no path is found, the graph has every edge from t to an owner.
-  quiet_all : (os : List ℕ) (g : WaitForGraph) → Sized g → Owned os → (add_all t g os).found ≡ none
+  quiet_all : (os : List ℕ) (g : WaitForGraph) → Sized g → Owned os → (add_all t g os).found ≡ None
       → Within (Fan (Edge g.edges) t os) (Edge (add_all t g os).graph.edges)
   unfolding add_all
   quiet_all [] g s h e a b (inl k) = k
@@ -122,7 +123,7 @@ module _ (t : ℕ) (j : t < 32) where
       w : Grown t o g r
       w = grown t o g s j (h o (inl refl))
 
-      f : (r.found ≡ none) × ((add_all t r.graph os).found ≡ none)
+      f : (r.found ≡ None) × ((add_all t r.graph os).found ≡ None)
       f = first_none r.found (add_all t r.graph os).found e
 
       go : Fan (Edge g.edges) t (o ∷ os) a b → Fan (Edge r.graph.edges) t os a b
@@ -133,7 +134,7 @@ module _ (t : ℕ) (j : t < 32) where
       ]
 
   -- A path that is found leads from one of the owners to t, along edges that were there or lead from t to an owner.
-  loud_all : (os : List ℕ) (g : WaitForGraph) (p : List ℕ) → Sized g → Owned os → (add_all t g os).found ≡ some p
+  loud_all : (os : List ℕ) (g : WaitForGraph) (p : List ℕ) → Sized g → Owned os → (add_all t g os).found ≡ Some p
       → (o : ℕ) × In o os × Found (Fan (Edge g.edges) t os) o t p
   unfolding add_all
   loud_all [] g p s h e = absurd (none_some e)
@@ -150,8 +151,8 @@ module _ (t : ℕ) (j : t < 32) where
       wide a b (inl k) = elim (w.only a b k) [ inl x ↦ inl x | inr q ↦ inr (q.0, inl q.1) ]
       wide a b (inr m) = inr (m.0, inr m.1)
 
-      go : (r.found ≡ some p) ⊎ ((r.found ≡ none) × ((add_all t r.graph os).found ≡ some p))
-          → ((add_all t r.graph os).found ≡ some p → (o : ℕ) × In o os × Found (Fan (Edge r.graph.edges) t os) o t p)
+      go : (r.found ≡ Some p) ⊎ ((r.found ≡ None) × ((add_all t r.graph os).found ≡ Some p))
+          → ((add_all t r.graph os).found ≡ Some p → (o : ℕ) × In o os × Found (Fan (Edge r.graph.edges) t os) o t p)
           → (o' : ℕ) × In o' (o ∷ os) × Found (Fan (Edge g.edges) t (o ∷ os)) o' t p
       go (inl q) next =
           let f = w.loud p q in
@@ -210,28 +211,28 @@ module _ (t : ℕ) (j : t < 32) (os : List ℕ) (h : Owned os) (g : WaitForGraph
   register_good k = rw owners_all (good_all t j os g h k)
 
   -- A path that is found leads from an owner to t.
-  pub register_path : Sized g → (p : List ℕ) → (add_owners t g os).found ≡ some p → (o : ℕ) × In o os × Found (Fan (Edge g.edges) t os) o t p
+  pub register_path : Sized g → (p : List ℕ) → (add_owners t g os).found ≡ Some p → (o : ℕ) × In o os × Found (Fan (Edge g.edges) t os) o t p
   register_path s p e = loud_all t j os g p s h (rw owners_all at e)
 
   -- It is a ring of distinct threads in the graph with all these edges.
-  pub register_ring : Sized g → (p : List ℕ) → (add_owners t g os).found ≡ some p → Ring (Fan (Edge g.edges) t os) p × Distinct p
+  pub register_ring : Sized g → (p : List ℕ) → (add_owners t g os).found ≡ Some p → Ring (Fan (Edge g.edges) t os) p × Distinct p
   register_ring s p e =
       let x = register_path s p e in
       (leads_ring (Fan (Edge g.edges) t os) x.0 t p x.2.leads (inr (refl, x.1)), x.2.distinct)
 
   -- If no path is found, the graph with all these edges has no cycle.
-  pub register_none : Good g → (add_owners t g os).found ≡ none → Acyclic (Fan (Edge g.edges) t os)
+  pub register_none : Good g → (add_owners t g os).found ≡ None → Acyclic (Fan (Edge g.edges) t os)
   register_none k e =
       acyclic_within (Fan (Edge g.edges) t os) (Edge (add_all t g os).graph.edges) (quiet_all t j os g k.sized h (rw owners_all at e))
       (good_all t j os g h k).acyclic
 
   -- If the graph with all these edges has a cycle, a path is found.
-  pub register_found : Good g → Cycle (Fan (Edge g.edges) t os) → (p : List ℕ) × ((add_owners t g os).found ≡ some p)
+  pub register_found : Good g → Cycle (Fan (Edge g.edges) t os) → (p : List ℕ) × ((add_owners t g os).found ≡ Some p)
   register_found k c = go (add_owners t g os).found refl
     where
-      go : (o : Option (List ℕ)) → (add_owners t g os).found ≡ o → (p : List ℕ) × ((add_owners t g os).found ≡ some p)
-      go none e = absurd (register_none k e c.from c.to c.edge c.back)
-      go (some p) e = (p, e)
+      go : (o : Option (List ℕ)) → (add_owners t g os).found ≡ o → (p : List ℕ) × ((add_owners t g os).found ≡ Some p)
+      go None e = absurd (register_none k e c.from c.to c.edge c.back)
+      go (Some p) e = (p, e)
 
   -- The edges stored are those that were there, and those to owners from which no walk leads back to t.
   pub register_stored : Sized g → (a b : ℕ)

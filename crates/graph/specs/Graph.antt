@@ -1,7 +1,6 @@
 -- The wait-for graph and what the rules do to it (docs/RULES.md).
-use Rattle.std.specs.Prelude.{◌≡◌, Bool, true, false, not, cond, ℕ, ◌<◌, ◌^◌, ltb, set, length, replicate}
+use Rattle.std.specs.Prelude.{◌≡◌, Bool, true, false, not, cond, ℕ, ◌<◌, ◌^◌, ltb, set, length, replicate, Option, None, Some}
 use mathlib.Core.List.{List, [], ◌∷◌, foldl}
-use Rattle.std.proofs.Math.Option.{Option, none, some}
 use Rattle.sets.specs.Limits.{THREADS}
 use Rattle.sets.specs.Sets.{bit, has, with, without, upward}
 use Rattle.sets.specs.Below.{every}
@@ -46,17 +45,17 @@ stored g a b = graph (put g.edges a b) (put g.incoming_edges b a)
 -- Adds the edge from a to b after a search from b to a. If that found a path, the edge would close a cycle: the graph
 -- stays as it is, and the path is returned. If it found none, the edge is stored.
 unfoldable pub closing : WaitForGraph → ℕ → ℕ → Option (List ℕ) → Adding
-closing g a b (some p) = adding g (some p)
-closing g a b none = adding (stored g a b) none
+closing g a b (Some p) = adding g (Some p)
+closing g a b None = adding (stored g a b) None
 
 -- Adds the edge from a to b. Nothing changes if the graph has it; if not, the search for a path back decides.
 unfoldable pub add_edge : WaitForGraph → ℕ → ℕ → Adding
-add_edge g a b = cond (has (row g.edges a) b) (adding g none) (closing g a b (find_path g.edges b a))
+add_edge g a b = cond (has (row g.edges a) b) (adding g None) (closing g a b (find_path g.edges b a))
 
 -- Returns the first path if there is one, or the second.
 abbrev pub first : Option (List ℕ) → Option (List ℕ) → Option (List ℕ)
-first (some p) q = some p
-first none q = q
+first (Some p) q = Some p
+first None q = q
 
 -- Adds the edge from t to one more owner, and keeps a path found before.
 unfoldable pub add_next : ℕ → Adding → ℕ → Adding
@@ -64,7 +63,7 @@ add_next t k o = let r = add_edge k.graph t o in adding r.graph (first k.found r
 
 -- Adds an edge from t to each owner, in order, and keeps the first path. A path does not stop the owners after it.
 unfoldable pub add_owners : ℕ → WaitForGraph → List ℕ → Adding
-add_owners t g os = foldl (add_next t) (adding g none) os
+add_owners t g os = foldl (add_next t) (adding g None) os
 
 -- Returns the thread o alone in a list, or the empty list if o is nobody.
 abbrev pub one : ℕ → List ℕ

@@ -1,22 +1,23 @@
--- What the calls ask of a path, and what a search keeps to.
-use Rattle.std.specs.Prelude.{◌≡◌, ℕ, ◌<◌, ◌≤◌, ◌^◌, get_or, length}
+-- What a path and a search keep to.
+use Rattle.std.specs.Prelude.{◌≡◌, List, ℕ, ◌<◌, ◌≤◌, ◌^◌, get_or, length}
 use Rattle.std.specs.Int.Count.{ones}
 use Rattle.sets.specs.Limits.{THREADS}
-use Rattle.graph.specs.declared.search.Search.{Search}
-use Rattle.graph.specs.declared.path.Path.{Path}
+use Rattle.graph.specs.Search.{Trail}
+
+-- States that every thread of a list is below 32.
+abbrev pub Small : List ℕ → Type 0
+Small p = (k : ℕ) → get_or p k 0 < THREADS
 
 -- States that a path has at most 32 threads, each below 32.
-pub record Fit (p : Path) : Type 0 where
-  pub long : p.len ≤ THREADS
-  pub small : (k : ℕ) → get_or p.threads k 0 < THREADS
-  pub cells : p.len ≤ length p.threads
+pub record Fit (p : List ℕ) : Type 0 where
+  pub long : length p ≤ THREADS
+  pub small : Small p
 
 -- States that a search has found as many threads as are seen, that each is below 32, and that the parent of each but
 -- the first stands before it.
-pub record Sound (s : Search) : Type 0 where
-  pub long : length s.threads ≡ THREADS
-  pub long_from : length s.parents ≡ THREADS
-  pub counted : s.count ≡ ones s.seen
+pub record Sound (s : Trail) : Type 0 where
+  pub counted : length s.threads ≡ ones s.seen
+  pub paired : length s.parents ≡ length s.threads
   pub below : s.seen < 2 ^ 32
-  pub small : (k : ℕ) → k < s.count → get_or s.threads k 0 < THREADS
-  pub earlier : (k : ℕ) → 0 < k → k < s.count → get_or s.parents k 0 < k
+  pub small : Small s.threads
+  pub earlier : (k : ℕ) → 0 < k → k < length s.threads → get_or s.parents k 0 < k

@@ -1,8 +1,7 @@
 -- The search for a path from b to a goes breadth first and takes the neighbours of a thread from the lowest number up.
 -- A thread that is met again keeps the parent it was first found from.
 use mathlib.Core.List.{List, [], ◌∷◌, ◌++◌, foldl}
-use Rattle.std.specs.Prelude.{cond, ℕ, zero, suc, get_or, length, ltb, eqb}
-use Rattle.std.proofs.Math.Option.{Option, none, some}
+use Rattle.std.specs.Prelude.{cond, ℕ, zero, suc, get_or, length, ltb, eqb, Option, None, Some}
 use Rattle.sets.specs.Limits.{THREADS}
 use Rattle.sets.specs.Sets.{has, with, upward}
 
@@ -37,11 +36,11 @@ way_back (suc f) s (suc k) acc = way_back f s (get_or s.parents (suc k) 0) (get_
 -- Takes the threads found in order, from the place p on, and expands each until it meets the thread a. Returns the path
 -- to a, or none if no thread is left or f turns are over.
 unfoldable pub search : ℕ → List ℕ → ℕ → ℕ → Trail → Option (List ℕ)
-search zero rows a p s = none
+search zero rows a p s = None
 search (suc f) rows a p s =
     let x : ℕ = get_or s.threads p 0 in
     let on : Option (List ℕ) = search f rows a (suc p) (expand p s (row rows x)) in
-    cond (ltb p (length s.threads)) (cond (eqb x a) (some (way_back 31 s p [])) on) none
+    cond (ltb p (length s.threads)) (cond (eqb x a) (Some (way_back 31 s p [])) on) None
 
 -- Returns the trail that has found the thread b alone.
 abbrev pub begun : ℕ → Trail

@@ -7,6 +7,6 @@ mod search;
 mod wait_for_graph;
 
 pub use mirror::mirrors;
-pub use path::{Path, Sought, Way};
+pub use path::Path;
 pub use search::find_path;
-pub use wait_for_graph::{Added, WaitForGraph};
+pub use wait_for_graph::WaitForGraph;

@@ -1,53 +1,58 @@
-// A path of threads, and the result of a search for one.
-ghost use Rattle.std.specs.Prelude.{◌≡◌};
-ghost use Rattle.std.proofs.Math.Option.{none};
-ghost use Rattle.graph.specs.Code.{sought_of, sooner};
+// A path of threads.
+ghost use Rattle.std.specs.Prelude.{◌≡◌, ◌<◌, [], ◌∷◌, ◌++◌, length, reverse};
+ghost use Rattle.sets.specs.Limits.{THREADS};
+ghost use Rattle.graph.specs.Promises.{Fit, Small};
 
+use arrayvec::ArrayVec;
 use sets::THREADS;
+use std::marker::Model;
 
-// Holds the threads of a path in order. The places after them hold 0.
-#[derive(Clone, Copy)]
+// Holds the threads of a path in order, at most 32. A contract sees a path as the list of its threads.
+#[derive(Drop)]
 pub struct Path {
-    pub threads: [u8; THREADS],
-    pub len: usize,
+    threads: ArrayVec<u8, THREADS>,
 }
 
-// Says whether there is a path.
-#[derive(Clone, Copy)]
-pub enum Way {
-    Found,
-    Missing,
+impl Model for Path {
+    ghost use Rattle.std.specs.Prelude.{List, ℕ};
+    ghost use Rattle.graph.specs.Promises.{Small};
+
+    ghost Value = { List ℕ };
+
+    ghost view = { λ p. p.threads.items };
+
+    ghost invariant = { λ p. Small p.threads.items };
 }
 
-// The result of a search: whether there is a path, and the path itself, which is empty if there is none.
-#[derive(Clone, Copy)]
-pub struct Sought {
-    pub way: Way,
-    pub path: Path,
-}
-
-impl Sought {
-    // Returns the result of a search that found no path.
-    pub fn missing() -> Sought
-        ensures { result ≡ sought_of none }
+impl Path {
+    // Returns the path without threads.
+    pub(crate) fn new() -> Path
+        ensures { result ≡ [] }
     {
-        Sought {
-            way: Way::Missing,
-            path: Path {
-                threads: [0u8; THREADS],
-                len: 0,
-            },
+        Path {
+            threads: ArrayVec::new(),
         }
     }
 
-    // Returns this result if it has a path, or the later one if it has none.
-    pub fn or(self, later: Sought) -> Sought
-        ensures { result ≡ sooner self later }
+    // Puts a thread at the end of the path.
+    pub(crate) fn push(&mut self, thread: u8)
+        requires { (length self.old < THREADS) × (thread < THREADS) }
+        ensures { self.new ≡ self.old ++ thread ∷ [] }
     {
-        let way = self.way;
-        let Way::Found = way else {
-            return later;
-        };
-        self
+        self.threads.push(thread);
+    }
+
+    // Turns the path round.
+    pub(crate) fn reverse(&mut self)
+        ensures { self.new ≡ reverse self.old }
+    {
+        self.threads.reverse();
+    }
+
+    // Returns the threads of the path in order.
+    pub fn threads(&self) -> &[u8]
+        ensures { (result.now ≡ self.now) × Fit self.now }
+    {
+        &self.threads
     }
 }

@@ -1,151 +1,124 @@
 // The search for a path goes breadth first and takes the neighbours of a thread from the lowest number up. A thread
 // that is met again keeps the parent it was first found from.
-ghost use Rattle.std.specs.Prelude.{◌≡◌, [], ◌<◌, ◌≤◌, drop};
-ghost use Rattle.std.proofs.Math.Option.{some};
+ghost use Rattle.std.specs.Prelude.{◌≡◌, [], ◌<◌, ◌≤◌, length, slice_get, IfSome};
 ghost use Rattle.sets.specs.Limits.{THREADS};
 ghost use Rattle.graph.specs.Search.{visit, expand, way_back, begun, find_path};
-ghost use Rattle.graph.specs.Promises.{Sound};
-ghost use Rattle.graph.specs.Code.{trail_of, path_of, sought_of};
 
-use crate::path::{Path, Sought, Way};
-use sets::{THREADS, threads};
+use crate::path::Path;
+use arrayvec::ArrayVec;
+use sets::{Set, THREADS};
+use std::marker::Model;
 
-// Holds the threads found in the order in which they were found, which is also the queue of threads to expand; for each
-// the place of its parent, the thread it was found from; and all of them as a set.
-#[derive(Drop)]
-pub struct Search {
-    pub threads: [u8; THREADS],
-    pub parents: [u8; THREADS],
-    pub count: usize,
-    pub seen: u32,
+// A thread that was found, and the place of its parent, the thread it was found from.
+#[derive(Clone, Copy, Default)]
+pub struct Found {
+    pub thread: u8,
+    pub parent: u8,
 }
 
-// Holds a path in the last places of an array, from the place `at` on.
+// Holds the threads found in the order in which they were found, which is also the queue of threads to expand, and all
+// of them as a set. A contract sees a search as its trail.
 #[derive(Drop)]
-struct Back {
-    cells: [u8; THREADS],
-    at: usize,
+pub struct Search {
+    found: ArrayVec<Found, THREADS>,
+    seen: u32,
+}
+
+impl Model for Search {
+    ghost use Rattle.graph.specs.Search.{Trail};
+    ghost use Rattle.graph.specs.Code.{trail_of};
+    ghost use Rattle.graph.specs.Promises.{Sound};
+
+    ghost Value = { Trail };
+
+    ghost view = { λ s. trail_of s.found.items s.seen };
+
+    ghost invariant = { λ s. Sound (trail_of s.found.items s.seen) };
 }
 
 impl Search {
     // Returns a search that has found the start alone.
-    fn begun(start: usize) -> Search
+    fn begin(start: usize) -> Search
         requires { start < THREADS }
-        ensures { (trail_of result ≡ begun start) × Sound result × (0 < result.count) }
+        ensures { result ≡ begun start }
     {
-        let mut threads = [0u8; THREADS];
-        threads[0] = start as u8;
-        let seen = threads::with(0, start);
+        let mut found = ArrayVec::new();
+        found.push(Found {
+            thread: start as u8,
+            parent: 0,
+        });
         Search {
-            threads,
-            parents: [0u8; THREADS],
-            count: 1,
-            seen,
+            found,
+            seen: 0u32.with(start),
         }
     }
 
     // Adds the thread n, met among the neighbours of the thread at the place p, unless it was found before.
-    fn visit(mut self, n: usize, p: usize) -> Search
-        requires { Sound self × (n < THREADS) × (p < self.count) }
-        ensures { (trail_of result ≡ visit p (trail_of self) n) × Sound result × (self.count ≤ result.count) }
+    fn visit(&mut self, n: usize, p: usize)
+        requires { (n < THREADS) × (p < length self.old.threads) }
+        ensures { self.new ≡ visit p self.old n }
     {
-        let seen = self.seen;
-        let at = self.count;
-        if threads::has(seen, n) {
-            return self;
+        if !self.seen.has(n) {
+            self.found.push(Found {
+                thread: n as u8,
+                parent: p as u8,
+            });
+            self.seen = self.seen.with(n);
         }
-        self.threads[at] = n as u8;
-        self.parents[at] = p as u8;
-        self.count = at + 1;
-        self.seen = threads::with(seen, n);
-        self
     }
 
     // Visits all neighbours m of the thread at the place p, upward.
-    fn expand(self, m: u32, p: usize) -> Search
-        requires { Sound self × (p < self.count) }
-        ensures { (trail_of result ≡ expand p (trail_of self) m) × Sound result × (self.count ≤ result.count) }
+    fn expand(&mut self, m: u32, p: usize)
+        requires { p < length self.old.threads }
+        ensures { self.new ≡ expand p self.old m }
     {
-        let mut s = self;
-        let mut left = m;
-        while left != 0 {
-            let n = threads::lowest(left);
-            s = s.visit(n, p);
-            left = threads::rest(left);
+        for n in m.upward() {
+            self.visit(n, p);
         }
-        s
     }
 
-    // Returns the path from the start to the thread at a place. The parents give its end first, so it is written from
-    // the last place of the array down.
-    fn back(self, place: usize) -> Back
-        requires { Sound self × (place < self.count) }
-        ensures { (drop result.at result.cells ≡ way_back 31 (trail_of self) place []) × (result.at < THREADS) }
+    // Returns the thread at a place, or None if that many threads were not found.
+    fn thread(&self, place: usize) -> Option<usize>
+        ensures { (result ≡ slice_get self.now.threads place) × IfSome result (λ t. (t < THREADS) × (place < length self.now.threads)) }
     {
-        let mut cells = [0u8; THREADS];
-        let mut at: usize = THREADS;
+        let found = self.found.get(place)?;
+        Some(usize::from(found.thread))
+    }
+
+    // Returns the path from the start to the thread at a place. The parents give its end first.
+    fn path_to(&self, place: usize) -> Path
+        requires { place < length self.now.threads }
+        ensures { result ≡ way_back 31 self.now place [] }
+    {
+        let mut path = Path::new();
         let mut k = place;
         while k != 0 {
-            at -= 1;
-            cells[at] = self.threads[k];
-            k = self.parents[k] as usize;
+            path.push(self.found[k].thread);
+            k = usize::from(self.found[k].parent);
         }
-        at -= 1;
-        cells[at] = self.threads[0];
-        Back { cells, at }
-    }
-
-    // Returns the path from the start to the thread at a place as the result of the search.
-    fn found(self, place: usize) -> Sought
-        requires { Sound self × (place < self.count) }
-        ensures { result ≡ sought_of (some (way_back 31 (trail_of self) place [])) }
-    {
-        let b = self.back(place);
-        let cells = b.cells;
-        let at = b.at;
-        let path = lowered(cells, at);
-        Sought {
-            way: Way::Found,
-            path,
-        }
+        path.push(self.found[0].thread);
+        path.reverse();
+        path
     }
 }
 
-// Returns the path that stands in the array from the place `at` on, moved to the front.
-fn lowered(cells: [u8; THREADS], at: usize) -> Path
-    requires { at < THREADS }
-    ensures { result ≡ path_of (drop at cells) }
-{
-    let mut threads = [0u8; THREADS];
-    let mut j = 0;
-    while j < THREADS - at {
-        threads[j] = cells[at + j];
-        j += 1;
-    }
-    Path { threads, len: j }
-}
-
-// Returns a path from start to target along the edges of 32 rows, or Missing if there is none. If start is target, the
+// Returns a path from start to target along the edges of 32 rows, or None if there is none. If start is target, the
 // path is that thread alone.
-pub fn find_path(edges: [u32; THREADS], start: usize, target: usize) -> Sought
+pub fn find_path(edges: &[u32; THREADS], start: usize, target: usize) -> Option<Path>
     requires { start < THREADS }
-    ensures { result ≡ sought_of (find_path edges start target) }
+    ensures { result ≡ find_path edges.now start target }
 {
     // Most threads that own a lock wait for nobody, so most calls end here without a search.
-    if edges[start] == 0 {
-        if start != target {
-            return Sought::missing();
-        }
+    if edges[start] == 0 && start != target {
+        return None;
     }
-    let mut s = Search::begun(start);
-    let mut p = 0;
-    while p < s.count {
-        let current = s.threads[p] as usize;
+    let mut search = Search::begin(start);
+    for p in 0..THREADS {
+        let current = search.thread(p)?;
         if current == target {
-            return s.found(p);
+            return Some(search.path_to(p));
         }
-        s = s.expand(edges[current], p);
-        p += 1;
+        search.expand(edges[current], p);
     }
-    Sought::missing()
+    None
 }

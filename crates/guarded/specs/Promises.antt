@@ -1,6 +1,6 @@
 -- What the calls promise anybody, with any run, any places and any buffers: a call that the inner call could
 -- serve is taken, and any other is refused and changes nothing.
-use Rattle.std.specs.Prelude.{◌≡◌, Bool, true, false, cond, List, ℕ, ◌-◌, eqb, ltb, length}
+use Rattle.std.specs.Prelude.{◌≡◌, Bool, true, false, cond, List, ℕ, ◌-◌, eqb, ltb, length, Option, None, MatchOption}
 use Rattle.detector.specs.Refusals.{buffer_bytes}
 use Rattle.detector.specs.State.{valid_test}
 use Rattle.text.specs.Lines.{carry_bytes}
@@ -11,8 +11,7 @@ use Rattle.transcript.specs.Chunks.{ends}
 use Rattle.transcript.specs.Code.{mid_of}
 use Rattle.transcript.specs.Promises.{IsRun, FeedAsks, EndAsks, Feeds}
 use Rattle.transcript.specs.declared.run.Run.{Run}
-use Rattle.guarded.specs.declared.Fed.{Fed}
-use Rattle.guarded.specs.declared.Ended.{Ended}
+use Rattle.transcript.specs.declared.run.Turned.{Turned}
 
 -- Returns true if the run can be one between two bytes of a text: at most 1,000,000 lines read, at most 41
 -- bytes carried in a carry of 41, and a valid state.
@@ -35,16 +34,16 @@ end_test r carry out at =
     (cond (eqb r.have 0) (run_test r carry) (cond (eqb r.lines limit) (run_test r carry) false)))
 
 -- States what `feed` promises for any call.
-pub record FeedsAny (r : Run) (carry chunk : List ℕ) (from : ℕ) (out : List ℕ) (at : ℕ) (buf : List ℕ) (f : Fed) (carry' out' buf' : List ℕ) : Type 0 where
+pub record FeedsAny (r : Run) (carry chunk : List ℕ) (from : ℕ) (out : List ℕ) (at : ℕ) (buf : List ℕ) (r' : Run) (f : Option Turned) (carry' out' buf' : List ℕ) : Type 0 where
   pub fed : feed_test r carry (length chunk) from (length out) at (length buf) ≡ true
-      → (f.taken ≡ true) × Feeds r carry chunk from out at f.turned carry' out'
+      → MatchOption f ⊥ (λ t. Feeds r carry chunk from out at r' t carry' out')
   pub refused : feed_test r carry (length chunk) from (length out) at (length buf) ≡ false
-      → (f ≡ record { turned = record { run = r; next = from; at = at }; taken = false }) × (carry' ≡ carry) × (out' ≡ out) × (buf' ≡ buf)
+      → (f ≡ None) × (r' ≡ r) × (carry' ≡ carry) × (out' ≡ out) × (buf' ≡ buf)
 
 -- States what `finish` promises for any call.
-pub record EndsAny (r : Run) (carry out : List ℕ) (at : ℕ) (e : Ended) (out' : List ℕ) : Type 0 where
-  pub ended : end_test r carry (length out) at ≡ true → (e.taken ≡ true) × Put out at (ends (mid_of r carry)) out' e.at
-  pub refused : end_test r carry (length out) at ≡ false → (e ≡ record { at = at; taken = false }) × (out' ≡ out)
+pub record EndsAny (r : Run) (carry out : List ℕ) (at : ℕ) (e : Option ℕ) (out' : List ℕ) : Type 0 where
+  pub ended : end_test r carry (length out) at ≡ true → MatchOption e ⊥ (λ to. Put out at (ends (mid_of r carry)) out' to)
+  pub refused : end_test r carry (length out) at ≡ false → (e ≡ None) × (out' ≡ out)
 
 -- These three state that what the inner calls ask passes the tests (`run_taken`, `feed_taken`, `end_taken`), so
 -- that no call is refused that they could serve.

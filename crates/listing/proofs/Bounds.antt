@@ -14,18 +14,18 @@ use Rattle.sets.specs.Sets.{cons_if, upward_from, upward}
 use Rattle.sets.specs.Lists.{In}
 use Rattle.sets.proofs.Walk.{upward_lt}
 use Rattle.graph.specs.Search.{row}
-use Rattle.waits.specs.Tables.{no_slot, lock_of}
+use Rattle.waits.specs.Tables.{lock_of}
 use Rattle.waits.specs.Counts.{place, count_of}
-use Rattle.waits.specs.declared.intent.Slot.{Slot}
+use Rattle.waits.specs.declared.intent.WaitIntent.{WaitIntent}
 use Rattle.waits.specs.declared.intent.WaitMode.{WaitMode}
 use Rattle.waits.specs.declared.intent.WaitMode.TheVariants.{Mutex, RwRead, RwWrite}
-use Rattle.waits.specs.declared.intent.Awaits.{Awaits}
-use Rattle.waits.specs.declared.intent.Awaits.TheVariants.{Nothing, For}
+use Rattle.std.specs.Prelude.{Option, Some, None}
 use Rattle.detector.specs.Tables.{blank_cv_wait, no_pair}
 use Rattle.detector.specs.State.{tables, pairs_of, blank_queue, Queued, ValidCvWait, Valid}
 use Rattle.detector.specs.declared.state.Pair.{Pair}
 use Rattle.detector.specs.declared.state.CvWait.{CvWait}
 use Rattle.detector.specs.declared.state.Queue.{Queue}
+use Rattle.detector.specs.Typed.{Typed}
 use Rattle.detector.specs.declared.state.Detector.{Detector}
 use Rattle.text.specs.Bytes.{text}
 use Rattle.text.specs.Decimal.{decimal, with_tab, tabbed}
@@ -184,28 +184,15 @@ mode_size Mutex = omega arith
 mode_size RwRead = omega arith
 mode_size RwWrite = omega arith
 
-intent_size : (t : ℕ) (a : Awaits) → t < 32 → lock_of a < 64 → Size (intent_item t a) ≤ 16
-intent_size t Nothing h g = omega (arith, size_none)
-intent_size t (For i) h g = omega (arith, size_one (three t (mode_text i.mode) i.lock_id), three_size t (mode_text i.mode) i.lock_id 7 (omega arith) (omega arith) (mode_size i.mode))
+intent_size : (t : ℕ) (a : Option WaitIntent) → t < 32 → lock_of a < 64 → Size (intent_item t a) ≤ 16
+intent_size t None h g = omega (arith, size_none)
+intent_size t (Some i) h g = omega (arith, size_one (three t (mode_text i.mode) i.lock_id), three_size t (mode_text i.mode) i.lock_id 7 (omega arith) (omega arith) (mode_size i.mode))
 
-intents_size : (ss : List Slot) → length ss ≡ 32 → ((t : ℕ) → lock_of (get_or ss t no_slot).awaits < 64) → Size (intents_items ss) ≤ 512
+intents_size : (is : List (Option WaitIntent)) → length is ≡ 32 → ((t : ℕ) → lock_of (get_or is t None) < 64) → Size (intents_items is) ≤ 512
 unfolding intents_items
-intents_size ss e v = below_size _ 16 (length ss) 32 e (λ t g. intent_size t (get_or ss t no_slot).awaits g (v t))
+intents_size is e v = below_size _ 16 (length is) 32 e (λ t g. intent_size t (get_or is t None) g (v t))
 
 -- ---- All tables
-
--- States that the arrays of the code have these lengths, and that each reader count is a byte.
-pub record Shaped (d : Detector) : Type 0 where
-  pub queues : length d.condvars.cv_waiters ≡ 16
-  pub edges : length d.waits.wait_for_graph.edges ≡ 32
-  pub incoming : length d.waits.wait_for_graph.incoming_edges ≡ 32
-  pub waiters : length d.waits.lock_waiters ≡ 64
-  pub owners : length d.waits.mutex_owners ≡ 64
-  pub counts : (i : ℕ) → get_or d.rwlock_readers i 0 < 256
-  pub writers : length d.waits.rwlock_writer ≡ 64
-  pub holds : length d.waits.thread_holds ≡ 32
-  pub waits : length d.condvars.thread_wait_cv ≡ 32
-  pub intents : length d.waits.thread_waits_for ≡ 32
 
 -- States that the text x has at most a bytes.
 record Short (x : List ℕ) (a : ℕ) : Type 0 where
@@ -218,7 +205,7 @@ both {x} {y} h g = record { fits = omega (arith, length-append x y, h.fits, g.fi
 short : (name : List ℕ) (xs : List (List ℕ)) (b : ℕ) → length name ≤ 16 → Size xs ≤ b → Short (table_text name xs) (23 + b)
 short name xs b h g = record { fits = omega (arith, line_size name xs) }
 
-module _ (d : Detector) (v : Valid d) (s : Shaped d) where
+module _ (d : Detector) (v : Valid d) (s : Typed d) where
   condvars_size : Short (condvars_text (map pairs_of d.condvars.cv_waiters) d.cv_woken) 6446
   unfolding condvars_text
   condvars_size =
@@ -227,23 +214,23 @@ module _ (d : Detector) (v : Valid d) (s : Shaped d) where
   graph_size : Short (graph_text d.waits) 32814
   unfolding graph_text
   graph_size =
-      both (short (text "edges") _ _ (omega arith) (sets_size (code ">") 32 _ s.edges (omega arith))) (short (text "incoming_edges") _ _ (omega arith) (sets_size (code "<") 32 _ s.incoming (omega arith)))
+      both (short (text "edges") _ _ (omega arith) (sets_size (code ">") 32 _ s.edges.long (omega arith))) (short (text "incoming_edges") _ _ (omega arith) (sets_size (code "<") 32 _ s.incoming.long (omega arith)))
 
   mutexes_size : Short (mutexes_text d.waits) 33326
   unfolding mutexes_text
   mutexes_size =
-      both (short (text "lock_waiters") _ _ (omega arith) (sets_size (code ":") 64 _ s.waiters (omega arith))) (short (text "mutex_owners") _ _ (omega arith) (owners_size _ s.owners))
+      both (short (text "lock_waiters") _ _ (omega arith) (sets_size (code ":") 64 _ s.waiters.long (omega arith))) (short (text "mutex_owners") _ _ (omega arith) (owners_size _ s.owners.long))
 
   rwlocks_size : Short (rwlocks_text d.waits d.rwlock_readers) 25134
   unfolding rwlocks_text
   rwlocks_size =
-      both (short (text "rwlock_readers") _ _ (omega arith) (readers_size _ s.counts)) (short (text "rwlock_writer") _ _ (omega arith) (owners_size _ s.writers))
+      both (short (text "rwlock_readers") _ _ (omega arith) (readers_size _ s.readers.small)) (short (text "rwlock_writer") _ _ (omega arith) (owners_size _ s.writers.long))
 
   threads_size : Short (threads_text d.waits d.condvars.thread_wait_cv) 17349
   unfolding threads_text
   threads_size =
-      both (short (text "thread_holds") _ _ (omega arith) (sets_size (code ":") 32 _ s.holds (omega arith)))
-      (both (short (text "thread_wait_cv") _ _ (omega arith) (cv_waits_size _ s.waits v.cv_waits)) (short (text "thread_waits_for") _ _ (omega arith) (intents_size _ s.intents v.waits.locks)))
+      both (short (text "thread_holds") _ _ (omega arith) (sets_size (code ":") 32 _ s.holds.long (omega arith)))
+      (both (short (text "thread_wait_cv") _ _ (omega arith) (cv_waits_size _ s.cv_places v.cv_waits)) (short (text "thread_waits_for") _ _ (omega arith) (intents_size _ s.slots v.waits.locks)))
 
   pub tables_bound : length (tables_text (tables d)) ≤ tables_bytes
   unfolding tables_text

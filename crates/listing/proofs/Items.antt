@@ -2,24 +2,24 @@
 use mathlib.Core.Path.{◌≡◌, refl, sym, ap, ◌∙◌}
 use mathlib.Core.Bool.{Bool, true, false}
 use mathlib.Core.List.{List, [], ◌∷◌, ◌++◌, map, append_assoc, append-nil}
-use Prim.Native.Nat.{ℕ, suc, ◌+◌, ◌-◌, ◌<◌, ◌≤◌, ◌^◌}
+use Prim.Native.Nat.{ℕ, suc, ◌+◌, ◌-◌, ◌<◌, ◌≤◌}
 use native.Mathlib.Omega.{arith}
 use native.Mathlib.Numerals.{add-one}
 use borrow.Author.Tests.{eq-eqb, ne_eqb}
 use lib.Dec.{eqb}
-use lib.ListN.{length, take, drop, get_or, length-append, length-take, drop_of_length-le, get_or-map}
-use lib.Seq.{slice-cons}
-use Rattle.sets.specs.Sets.{without, lowest}
-use Rattle.sets.proofs.Walk.{upward_step, upward_zero}
+use lib.ListN.{length, drop, get_or, length-append, drop_of_length-le, get_or-map, length-map}
+use lib.Seq.{drop-cons}
+use Rattle.std.proofs.lemmas.List.{get_or_default}
+use Rattle.graph.specs.Search.{row}
 use Rattle.text.specs.Bytes.{text}
-use Rattle.text.specs.Decimal.{decimal, with_tab, tabbed}
+use Rattle.text.specs.Decimal.{with_tab, tabbed}
 use Rattle.text.specs.Promises.{Room, Put}
 use Rattle.text.proofs.Puts.{then, room_then, room_first}
 use Rattle.detector.specs.Tables.{no_pair}
 use Rattle.detector.specs.State.{pairs_of, blank_queue}
 use Rattle.detector.specs.declared.state.Pair.{Pair}
 use Rattle.detector.specs.declared.state.Queue.{Queue}
-use Rattle.listing.specs.Listing.{table_text, two, along, below, members_of, set_items, pair_item, queue_items}
+use Rattle.listing.specs.Listing.{table_text, along, below, pair_item, queue_items}
 use Rattle.listing.specs.Code.{line_begun, opening, ending, more}
 use Rattle.listing.specs.Promises.{Roomy, Lists}
 
@@ -159,24 +159,7 @@ module _ {at r : ℕ} {name : List ℕ} {xs : List (List ℕ)} {d d' : List ℕ}
   pub closed : {d'' : List ℕ} {r' : ℕ} → Put d' r (ending (eqb r at)) d'' r' → Put d at (table_text name xs) d'' r'
   closed q = rw (whole_line name xs ∙ closes) (then p.put q)
 
--- ---- The items of a set, the lowest number first, and of a table, cell by cell
-
-module _ {m j m' : ℕ} (h : 0 < m) (g : m < 2 ^ 64) (e : j ≡ lowest 64 m) (f : m' ≡ without m (lowest 64 m)) where
-  pub members_more : members_of m ≡ (decimal j ∷ []) ++ members_of m'
-  unfolding members_of
-  members_more = rw (e, f) (ap (map decimal) (upward_step 64 m h g))
-
-  pub set_more : (sign i : ℕ) → set_items sign i m ≡ (two i sign j ∷ []) ++ set_items sign i m'
-  unfolding set_items
-  set_more sign i = rw (e, f) (ap (map (two i sign)) (upward_step 64 m h g))
-
-pub members_none : (m : ℕ) → m ≡ 0 → members_of m ≡ []
-unfolding members_of
-members_none m e = rw (e, upward_zero 64 0)
-
-pub set_none : (sign i m : ℕ) → m ≡ 0 → set_items sign i m ≡ []
-unfolding set_items
-set_none sign i m e = rw (e, upward_zero 64 0)
+-- ---- The items of a table, cell by cell
 
 pub along_more : (f : ℕ → List (List ℕ)) (i n : ℕ) → i < n → along f i (n - i) ≡ f i ++ along f (i + 1) (n - (i + 1))
 unfolding along
@@ -192,15 +175,19 @@ pub partly_start : {start at : ℕ} {name : List ℕ} {all : List (List ℕ)} {d
     → Partly start name all (along f 0 (n - 0)) d at d at
 partly_start f n e h w = let z : n - 0 ≡ n = omega arith in rw (z, ← e) (partly_none h w)
 
+-- The set in a cell of a table of sets is the mask of the cell.
+pub row_mask : {S : Type 0} (mask : S → ℕ) (rows : List S) (i : ℕ) (m : S) → i < length rows → m ≡ get_or rows i m → row (map mask rows) i ≡ mask m
+row_mask mask rows i m h e = get_or_default (map mask rows) i 0 (mask m) (omega (arith, length-map rows mask)) ∙ get_or-map mask rows i m ∙ sym (ap mask e)
+
 -- ---- Queues
 
-pub queue_more : (c k n : ℕ) (ps : List Pair) → k < n → n ≤ length ps → queue_items c (drop k (take n ps)) ≡ (pair_item c (get_or ps k no_pair) ∷ []) ++ queue_items c (drop (k + 1) (take n ps))
+pub queue_more : (c k : ℕ) (ps : List Pair) → k < length ps → queue_items c (drop k ps) ≡ (pair_item c (get_or ps k no_pair) ∷ []) ++ queue_items c (drop (k + 1) ps)
 unfolding queue_items
-queue_more c k n ps h g = ap (map (pair_item c)) (slice-cons k n ps no_pair h g ∙ ap (λ (i : ℕ). get_or ps k no_pair ∷ drop i (take n ps)) (sym (add-one k)))
+queue_more c k ps h = ap (map (pair_item c)) (drop-cons ps k no_pair h ∙ ap (λ (i : ℕ). get_or ps k no_pair ∷ drop i ps) (sym (add-one k)))
 
-pub queue_none : (c k n : ℕ) (ps : List Pair) → n ≤ k → queue_items c (drop k (take n ps)) ≡ []
+pub queue_none : (c k : ℕ) (ps : List Pair) → length ps ≤ k → queue_items c (drop k ps) ≡ []
 unfolding queue_items
-queue_none c k n ps h = let g : length (take n ps) ≤ k = omega (arith, length-take n ps) in ap (map (pair_item c)) (drop_of_length-le (take n ps) g)
+queue_none c k ps h = ap (map (pair_item c)) (drop_of_length-le ps h)
 
 -- Returns the items of the queue of the condvar c.
 abbrev pub queue_at : List Queue → ℕ → List (List ℕ)

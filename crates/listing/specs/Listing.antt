@@ -1,19 +1,16 @@
 -- The lines of the tables. Each table that is not empty has one line, with `table`, its name and its items,
 -- parted by tabs. Items go upward by number, and tables by name.
-use Rattle.std.specs.Prelude.{ℕ, zero, suc, cond, List, [], ◌∷◌, ◌++◌, map, eqb, ltb, length, get_or}
+use Rattle.std.specs.Prelude.{ℕ, zero, suc, cond, List, [], ◌∷◌, ◌++◌, map, eqb, ltb, length, get_or, Option, Some, None}
 use Prim.Native.Char.{code}
 use Rattle.sets.specs.Limits.{THREADS, LOCKS}
 use Rattle.detector.specs.Limits.{NONE}
 use Rattle.sets.specs.Sets.{upward}
 use Rattle.graph.specs.Search.{row}
-use Rattle.waits.specs.Tables.{no_slot}
 use Rattle.waits.specs.Counts.{count_of}
 use Rattle.waits.specs.declared.tables.Waits.{Waits}
-use Rattle.waits.specs.declared.intent.Slot.{Slot}
+use Rattle.waits.specs.declared.intent.WaitIntent.{WaitIntent}
 use Rattle.waits.specs.declared.intent.WaitMode.{WaitMode}
 use Rattle.waits.specs.declared.intent.WaitMode.TheVariants.{Mutex, RwRead, RwWrite}
-use Rattle.waits.specs.declared.intent.Awaits.{Awaits}
-use Rattle.waits.specs.declared.intent.Awaits.TheVariants.{Nothing, For}
 use Rattle.detector.specs.Tables.{Tables, blank_cv_wait}
 use Rattle.detector.specs.declared.state.Pair.{Pair}
 use Rattle.detector.specs.declared.state.CvWait.{CvWait}
@@ -105,13 +102,13 @@ mode_text RwRead = text "RwRead"
 mode_text RwWrite = text "RwWrite"
 
 -- Returns the item `thread:mode:lock` of an intent, or nothing if there is none.
-abbrev pub intent_item : ℕ → Awaits → List (List ℕ)
-intent_item t Nothing = []
-intent_item t (For i) = three t (mode_text i.mode) i.lock_id ∷ []
+abbrev pub intent_item : ℕ → Option WaitIntent → List (List ℕ)
+intent_item t None = []
+intent_item t (Some i) = three t (mode_text i.mode) i.lock_id ∷ []
 
 -- Returns the items of the table of intents.
-unfoldable pub intents_items : List Slot → List (List ℕ)
-intents_items ss = below (length ss) (λ t. intent_item t (get_or ss t no_slot).awaits)
+unfoldable pub intents_items : List (Option WaitIntent) → List (List ℕ)
+intents_items is = below (length is) (λ t. intent_item t (get_or is t None))
 
 -- ---- The tables in the order of their names
 

@@ -1,13 +1,12 @@
 // This module puts the item of one cell of a table. Nothing is put for an empty cell, and then the place that
 // is returned is the one that came in. The line of the table begins at `start`.
-ghost use Rattle.std.specs.Prelude.{[], ◌∷◌};
-ghost use Rattle.listing.specs.Listing.{owner_item, reader_item, pair_item, cv_wait_item, intent_item};
+ghost use Rattle.std.specs.Prelude.{◌≡◌, [], ◌∷◌};
+ghost use Rattle.listing.specs.Listing.{owner_item, reader_item, pair_item, cv_wait_item, mode_text, intent_item};
 ghost use Rattle.listing.specs.Promises.{Roomy, Lists};
 
 use crate::item::{put_three, put_two, put_word};
 use detector::{CvWait, Pair};
-use text::wide;
-use waits::{Awaits, Slot, WaitMode, Waits};
+use waits::{WaitIntent, WaitMode, Waits};
 
 // Puts the item `lock:thread` of the lock l with the owner or writer o, if it has one, and returns the place after it.
 pub(crate) fn put_owner(
@@ -22,7 +21,7 @@ pub(crate) fn put_owner(
     ensures { Lists start name.now (owner_item o l) out.old at out.new result }
 {
     if o < Waits::NOBODY {
-        return put_two(out, start, at, name, l, b':', wide(o));
+        return put_two(out, start, at, name, l, b':', usize::from(o));
     }
     at
 }
@@ -44,7 +43,7 @@ pub(crate) fn put_reader(
     if n == 0 {
         return at;
     }
-    put_three(out, start, at, name, l, t, wide(n))
+    put_three(out, start, at, name, l, t, usize::from(n))
 }
 
 // Puts the item `condvar:thread:lock` of a pair in the queue of the condvar c, and returns the place after it.
@@ -59,7 +58,15 @@ pub(crate) fn put_pair(
     requires { Roomy start name.now (pair_item c p ∷ []) out.old at }
     ensures { Lists start name.now (pair_item c p ∷ []) out.old at out.new result }
 {
-    put_three(out, start, at, name, c, wide(p.thread), wide(p.lock))
+    put_three(
+        out,
+        start,
+        at,
+        name,
+        c,
+        usize::from(p.thread),
+        usize::from(p.lock),
+    )
 }
 
 // Puts the item `thread:condvar:lock` of the cv wait of the thread t, if it has one, and returns the place after it.
@@ -77,7 +84,26 @@ pub(crate) fn put_cv_wait(
     if v.condvar == CvWait::NONE {
         return at;
     }
-    put_three(out, start, at, name, t, wide(v.condvar), wide(v.lock))
+    put_three(
+        out,
+        start,
+        at,
+        name,
+        t,
+        usize::from(v.condvar),
+        usize::from(v.lock),
+    )
+}
+
+// Returns the name of a mode.
+fn mode_name(mode: WaitMode) -> &'static [u8]
+    ensures { result.now ≡ mode_text mode }
+{
+    match mode {
+        WaitMode::Mutex => b"Mutex",
+        WaitMode::RwRead => b"RwRead",
+        WaitMode::RwWrite => b"RwWrite",
+    }
 }
 
 // Puts the item `thread:mode:lock` of the intent of the thread t, if it has one, and returns the place after it.
@@ -87,20 +113,21 @@ pub(crate) fn put_intent(
     at: usize,
     name: &[u8],
     t: usize,
-    s: Slot,
+    intent: Option<WaitIntent>,
 ) -> usize
-    requires { Roomy start name.now (intent_item t s.awaits) out.old at }
-    ensures { Lists start name.now (intent_item t s.awaits) out.old at out.new result }
+    requires { Roomy start name.now (intent_item t intent) out.old at }
+    ensures { Lists start name.now (intent_item t intent) out.old at out.new result }
 {
-    let awaits = s.awaits;
-    let Awaits::For(i) = awaits else {
+    let Some(i) = intent else {
         return at;
     };
-    let l = wide(i.lock_id);
-    let mode = i.mode;
-    match mode {
-        WaitMode::Mutex => put_word(out, start, at, name, t, b"Mutex", l),
-        WaitMode::RwRead => put_word(out, start, at, name, t, b"RwRead", l),
-        WaitMode::RwWrite => put_word(out, start, at, name, t, b"RwWrite", l),
-    }
+    put_word(
+        out,
+        start,
+        at,
+        name,
+        t,
+        mode_name(i.mode),
+        usize::from(i.lock_id),
+    )
 }

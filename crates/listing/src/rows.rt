@@ -11,18 +11,16 @@ use crate::cell::{put_cv_wait, put_intent, put_owner, put_pair, put_reader};
 use crate::item::put_close;
 use detector::{CvWait, Detector, Queue};
 use sets::{LOCKS, THREADS};
-use waits::{Slot, Waits, place};
+use waits::{WaitIntent, Waits, place};
 
 // Puts the line of a table with the owner or the writer of each lock.
 pub(crate) fn put_owners(out: &mut [u8], at: usize, name: &[u8], owners: &[u8]) -> usize
     requires { Room out.old at (table_text name.now (owners_items owners.now)) }
     ensures { Put out.old at (table_text name.now (owners_items owners.now)) out.new result }
 {
-    let mut l = 0;
     let mut to = at;
-    while l < owners.len() {
-        to = put_owner(out, at, to, name, owners[l], l);
-        l = l + 1;
+    for (l, &o) in owners.iter().enumerate() {
+        to = put_owner(out, at, to, name, o, l);
     }
     put_close(out, at, to)
 }
@@ -39,12 +37,9 @@ fn put_readers_of(
     requires { (start ≤ at) × (l < LOCKS) × Roomy start name.now (readers_of counts.now l) out.old at }
     ensures { Lists start name.now (readers_of counts.now l) out.old at out.new result }
 {
-    let mut t = 0;
     let mut to = at;
-    while t < THREADS {
-        let k = place(t, l);
-        to = put_reader(out, start, to, name, t, l, counts[k]);
-        t = t + 1;
+    for t in 0..THREADS {
+        to = put_reader(out, start, to, name, t, l, counts[place(t, l)]);
     }
     to
 }
@@ -59,28 +54,21 @@ pub(crate) fn put_readers(
     requires { Room out.old at (table_text name.now (readers_items counts.now)) }
     ensures { Put out.old at (table_text name.now (readers_items counts.now)) out.new result }
 {
-    let mut l = 0;
     let mut to = at;
-    while l < LOCKS {
+    for l in 0..LOCKS {
         to = put_readers_of(out, at, to, name, counts, l);
-        l = l + 1;
     }
     put_close(out, at, to)
 }
 
 // Puts an item for each pair in the queue q of the condvar c, in the order of the queue.
-fn put_queue(out: &mut [u8], start: usize, at: usize, name: &[u8], c: usize, q: Queue) -> usize
-    requires { (start ≤ at) × Queued q × Roomy start name.now (queue_items c (pairs_of q)) out.old at }
-    ensures { Lists start name.now (queue_items c (pairs_of q)) out.old at out.new result }
+fn put_queue(out: &mut [u8], start: usize, at: usize, name: &[u8], c: usize, q: &Queue) -> usize
+    requires { (start ≤ at) × Queued q.now × Roomy start name.now (queue_items c (pairs_of q.now)) out.old at }
+    ensures { Lists start name.now (queue_items c (pairs_of q.now)) out.old at out.new result }
 {
-    let pairs = q.pairs;
-    let n = q.len as usize;
-    let mut k = 0;
     let mut to = at;
-    while k < n {
-        let p = pairs[k];
+    for &p in q.pairs() {
         to = put_pair(out, start, to, name, c, p);
-        k = k + 1;
     }
     to
 }
@@ -90,17 +78,14 @@ pub(crate) fn put_queues(
     out: &mut [u8],
     at: usize,
     name: &[u8],
-    queues: [Queue; Detector::CONDVARS],
+    queues: &[Queue; Detector::CONDVARS],
 ) -> usize
-    requires { Queues queues × Room out.old at (table_text name.now (queues_items (map pairs_of queues))) }
-    ensures { Put out.old at (table_text name.now (queues_items (map pairs_of queues))) out.new result }
+    requires { Queues queues.now × Room out.old at (table_text name.now (queues_items (map pairs_of queues.now))) }
+    ensures { Put out.old at (table_text name.now (queues_items (map pairs_of queues.now))) out.new result }
 {
-    let mut c = 0;
     let mut to = at;
-    while c < Detector::CONDVARS {
-        let q = queues[c];
+    for (c, q) in queues.iter().enumerate() {
         to = put_queue(out, at, to, name, c, q);
-        c = c + 1;
     }
     put_close(out, at, to)
 }
@@ -110,32 +95,31 @@ pub(crate) fn put_cv_waits(
     out: &mut [u8],
     at: usize,
     name: &[u8],
-    waits: [CvWait; THREADS],
+    waits: &[CvWait; THREADS],
 ) -> usize
-    requires { Room out.old at (table_text name.now (cv_waits_items waits)) }
-    ensures { Put out.old at (table_text name.now (cv_waits_items waits)) out.new result }
+    requires { Room out.old at (table_text name.now (cv_waits_items waits.now)) }
+    ensures { Put out.old at (table_text name.now (cv_waits_items waits.now)) out.new result }
 {
-    let mut t = 0;
     let mut to = at;
-    while t < THREADS {
-        let v = waits[t];
+    for (t, &v) in waits.iter().enumerate() {
         to = put_cv_wait(out, at, to, name, t, v);
-        t = t + 1;
     }
     put_close(out, at, to)
 }
 
 // Puts the line of the intents of all threads.
-pub(crate) fn put_intents(out: &mut [u8], at: usize, name: &[u8], slots: [Slot; THREADS]) -> usize
-    requires { Room out.old at (table_text name.now (intents_items slots)) }
-    ensures { Put out.old at (table_text name.now (intents_items slots)) out.new result }
+pub(crate) fn put_intents(
+    out: &mut [u8],
+    at: usize,
+    name: &[u8],
+    intents: &[Option<WaitIntent>; THREADS],
+) -> usize
+    requires { Room out.old at (table_text name.now (intents_items intents.now)) }
+    ensures { Put out.old at (table_text name.now (intents_items intents.now)) out.new result }
 {
-    let mut t = 0;
     let mut to = at;
-    while t < THREADS {
-        let s = slots[t];
-        to = put_intent(out, at, to, name, t, s);
-        t = t + 1;
+    for (t, &i) in intents.iter().enumerate() {
+        to = put_intent(out, at, to, name, t, i);
     }
     put_close(out, at, to)
 }

@@ -187,7 +187,7 @@ single m (b ∷ t) e = byte m b
 pub whole_part : {tables : Bool} (chunk : List ℕ) (from : ℕ) → tables ≡ false → from < length chunk → Part tables chunk from (length chunk)
 whole_part chunk from e h = record { onward = h; inside = omega arith; one = λ t. absurd (false≢true (sym e ∙ t)) }
 
-module _ {tables : Bool} {r : code.Run} {carry chunk : List ℕ} {from e : ℕ} {out : List ℕ} {t : Turned} {carry' out' : List ℕ} (o : Part tables chunk from e) (s : Feeds r carry (take e chunk) from out 0 t carry' out') (more : r.lines < limit) (room : length out ≡ out_bytes) where
+module _ {tables : Bool} {r : code.Run} {carry chunk : List ℕ} {from e : ℕ} {out : List ℕ} {r' : code.Run} {t : Turned} {carry' out' : List ℕ} (o : Part tables chunk from e) (s : Feeds r carry (take e chunk) from out 0 r' t carry' out') (more : r.lines < limit) (room : length out ≡ out_bytes) where
   ahead : t.next ≤ e
   ahead = omega (arith, s.moves.inside, length-take-le e chunk o.inside)
 
@@ -200,41 +200,41 @@ module _ {tables : Bool} {r : code.Run} {carry chunk : List ℕ} {from e : ℕ} 
   cut : between from t.next (take e chunk) ≡ part
   cut = ap (drop from) (take-take t.next e chunk ahead)
 
-  moves : Moves r carry chunk from t.next t.run carry'
+  moves : Moves r carry chunk from t.next r' carry'
   moves = record { kept = s.moves.kept; onward = s.moves.onward; inside = omega (arith, ahead, o.inside); after = s.moves.after ∙ ap (fed (mid_of r carry)) cut }
 
   put : Put out 0 (prints (mid_of r carry) part) out' t.at
   put = subst (λ (z : List ℕ). Put out 0 (prints (mid_of r carry) z) out' t.at) cut s.text
 
   -- Without tables, and with tables where no line ended, the text of `feed_within` is all that is put.
-  pub puts_plain : tables ≡ false → Puts tables r carry chunk from out t carry' out'
+  pub puts_plain : tables ≡ false → Puts tables r carry chunk from out r' t carry' out'
   puts_plain plain = record { moves = moves; onward = onward; text = subst (λ (z : Bool). Put out 0 (prints_with z (mid_of r carry) part) out' t.at) (sym plain) put; place = omega (arith, s.place, room) }
 
   module _ (asked : tables ≡ true) where
     few : line_ends part ≤ 1
     few = omega (arith, o.one asked, line_ends_first part (between t.next e chunk), ap line_ends (between_on from t.next e chunk moves.onward ahead o.inside))
 
-    count : t.run.lines ≡ (fed (mid_of r carry) part).run.lines
+    count : r'.lines ≡ (fed (mid_of r carry) part).run.lines
     count = ap (λ (m : Mid). m.run.lines) moves.after
 
-    grown : t.run.lines ≤ r.lines + 1
+    grown : r'.lines ≤ r.lines + 1
     grown = omega (arith, count, few, lines_few (mid_of r carry) part)
 
     pub short : t.at ≤ answer_bytes
     short = omega (arith, s.short, grown)
 
-    pub puts_none : t.run.lines ≡ r.lines → Puts tables r carry chunk from out t carry' out'
+    pub puts_none : r'.lines ≡ r.lines → Puts tables r carry chunk from out r' t carry' out'
     puts_none same =
         let q : Quiet (mid_of r carry) part = quiet (mid_of r carry) part (sym count ∙ same) in
         let text : Put out 0 (shows (mid_of r carry) part) out' t.at = subst (λ (z : List ℕ). Put out 0 z out' t.at) (q.prints ∙ sym q.shows) put in
         record { moves = moves; onward = onward; text = subst (λ (z : Bool). Put out 0 (prints_with z (mid_of r carry) part) out' t.at) (sym asked) text; place = omega (arith, short) }
 
     -- With tables, where a line ended, its tables are put after its answer.
-    pub puts_tables : (out'' : List ℕ) (to : ℕ) → (t.run.lines ≡ r.lines → ⊥) → Put out' t.at (tables_text (tables-of t.run.detector)) out'' to → to ≤ t.at + tables_bytes
-        → Puts tables r carry chunk from out (record { run = t.run; next = t.next; at = to }) carry' out''
+    pub puts_tables : (out'' : List ℕ) (to : ℕ) → (r'.lines ≡ r.lines → ⊥) → Put out' t.at (tables_text (tables-of r'.detector)) out'' to → to ≤ t.at + tables_bytes
+        → Puts tables r carry chunk from out r' (record { next = t.next; at = to }) carry' out''
     puts_tables out'' to other p w =
         let one : (fed (mid_of r carry) part).run.lines ≡ r.lines + 1 = omega (arith, other, count, grown, lines_up (mid_of r carry) part) in
-        let state : tables-of t.run.detector ≡ (fed (mid_of r carry) part).run.tables = ap (λ (m : Mid). m.run.tables) moves.after in
+        let state : tables-of r'.detector ≡ (fed (mid_of r carry) part).run.tables = ap (λ (m : Mid). m.run.tables) moves.after in
         let text : Put out 0 (shows (mid_of r carry) part) out'' to = subst (λ (z : List ℕ). Put out 0 z out'' to)
         (ap (λ (x : Tables). prints (mid_of r carry) part ++ tables_text x) state ∙ sym (single (mid_of r carry) part one))
         (then put p) in

@@ -20,8 +20,8 @@ pub record Part (tables : Bool) (chunk : List ℕ) (from to : ℕ) : Type 0 wher
   pub one : tables ≡ true → line_ends (between from to chunk) ≤ 1
 
 -- States that at least one byte of the chunk was taken, and that the text up to `t.next` was put.
-pub record Puts (tables : Bool) (r : Run) (carry chunk : List ℕ) (from : ℕ) (out : List ℕ) (t : Turned) (carry' out' : List ℕ) : Type 0 where
-  pub moves : Moves r carry chunk from t.next t.run carry'
+pub record Puts (tables : Bool) (r : Run) (carry chunk : List ℕ) (from : ℕ) (out : List ℕ) (r' : Run) (t : Turned) (carry' out' : List ℕ) : Type 0 where
+  pub moves : Moves r carry chunk from t.next r' carry'
   pub onward : from < t.next
   pub text : Put out 0 (prints_with tables (mid_of r carry) (between from t.next chunk)) out' t.at
   pub place : t.at ≤ out_bytes

@@ -1,6 +1,4 @@
 // This module reads the program's arguments.
-ghost use Rattle.std.specs.Prelude.{◌≤◌, length};
-
 use std::env::FillError;
 use std::rt::Env;
 
@@ -18,12 +16,8 @@ pub(crate) fn argument_count(rt: &HostRuntime) -> usize {
     usize::MAX
 }
 
-// Puts argument i at the start of `word` and returns its length, or 0 if it is missing or too long for `word`.
-pub(crate) fn argument(rt: &HostRuntime, i: usize, word: &mut [u8]) -> usize
-    ensures { result ≤ length word.new }
-{
-    match rt.arg(i, word) {
-        Ok(n) => n,
-        Err(_) => 0,
-    }
+// Returns argument i, which is read into `word`, or None if it is missing or too long for `word`.
+pub(crate) fn argument<'a>(rt: &HostRuntime, i: usize, word: &'a mut [u8]) -> Option<&'a [u8]> {
+    let n = rt.arg(i, word).ok()?;
+    Some(&word[..n])
 }

@@ -2,14 +2,10 @@
 // them it runs the scripts.
 use crate::arguments::{ARGUMENT_BYTES, argument, argument_count};
 use crate::scripts::run_scripts;
-use text::equal;
 
 // Returns true if an argument asks what the program takes.
 fn asks_help(word: &[u8]) -> bool {
-    if equal(word, b"--help") {
-        return true;
-    }
-    equal(word, b"-h")
+    word == b"--help".as_slice() || word == b"-h".as_slice()
 }
 
 // Returns true if one of the program's arguments asks what it takes.
@@ -17,8 +13,7 @@ fn help_asked(rt: &HostRuntime) -> bool {
     let n = argument_count(rt);
     for i in 1..n {
         let mut word = [0u8; ARGUMENT_BYTES];
-        let k = argument(rt, i, &mut word);
-        if asks_help(&word[..k]) {
+        if argument(rt, i, &mut word).is_some_and(asks_help) {
             return true;
         }
     }

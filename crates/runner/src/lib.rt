@@ -3,6 +3,7 @@
 #![tactic(auto)]
 
 mod arguments;
+mod buffers;
 mod chunks;
 mod help;
 mod part;

@@ -1,15 +1,14 @@
 // This module takes a part of a chunk: as many lines as the chunk has, or one line if tables are printed after
 // its answer.
-ghost use Rattle.std.specs.Prelude.{◌≡◌, ◌<◌, length};
-ghost use Rattle.detector.specs.Refusals.{buffer_bytes};
+ghost use Rattle.std.specs.Prelude.{◌<◌, length};
 ghost use Rattle.transcript.specs.Replay.{limit};
 ghost use Rattle.transcript.specs.Promises.{IsRun};
-ghost use Rattle.runner.specs.Code.{out_bytes};
 ghost use Rattle.runner.specs.Promises.{Part, Puts};
 
+use crate::buffers::Buffers;
 use listing::put_tables;
 use text::up_to;
-use transcript::{Run, Turned, feed_within};
+use transcript::{Run, Turned};
 
 // Returns where the part that starts at `from` ends: without tables at the chunk's end, with tables after the
 // next line feed, or at the chunk's end if there is none.
@@ -32,32 +31,26 @@ fn part_end(tables: bool, chunk: &[u8], from: usize) -> usize
 // into the loop that reads.
 pub(crate) fn put_part(
     tables: bool,
-    run: Run,
-    carry: &mut [u8],
+    run: &mut Run,
+    buffers: &mut Buffers,
     chunk: &[u8],
     from: usize,
-    out: &mut [u8],
-    buf: &mut [u8],
 ) -> Turned
-    requires run { IsRun run carry.old × (run.lines < limit) × (from < length chunk.now) }
-    requires buffers { (length out.old ≡ out_bytes) × (length buf.old ≡ buffer_bytes) }
-    ensures { Puts tables run carry.old chunk.now from out.old result carry.new out.new }
+    requires { IsRun run.old buffers.old.carry × (run.old.lines < limit) × (from < length chunk.now) }
+    ensures { Puts tables run.old buffers.old.carry chunk.now from buffers.old.out run.new result buffers.new.carry buffers.new.out }
 {
     let lines = run.lines;
     let end = part_end(tables, chunk, from);
-    let t = feed_within(run, carry, &chunk[..end], from, out, 0, buf);
-    if !tables {
-        return t;
+    let mut t = run.feed_within(
+        &mut buffers.carry,
+        &chunk[..end],
+        from,
+        &mut buffers.out,
+        0,
+        &mut buffers.reports,
+    );
+    if tables && run.lines != lines {
+        t.at = put_tables(&run.detector, &mut buffers.out, t.at);
     }
-    let r = t.run;
-    if r.lines == lines {
-        return t;
-    }
-    let d = r.detector;
-    let to = put_tables(d, out, t.at);
-    Turned {
-        run: r,
-        next: t.next,
-        at: to,
-    }
+    t
 }

@@ -1,34 +1,20 @@
 // This module runs the scripts of a program: those that it is given by name, or one on standard input.
-ghost use Rattle.std.specs.Prelude.{◌≡◌, ◌<◌, length};
-ghost use Rattle.detector.specs.Refusals.{buffer_bytes};
-ghost use Rattle.text.specs.Lines.{carry_bytes};
-ghost use Rattle.runner.specs.Code.{out_bytes};
+ghost use Rattle.std.specs.Prelude.{◌<◌, length};
 
 use crate::arguments::{ARGUMENT_BYTES, argument, argument_count};
-use crate::chunks::{Ending, run_script};
-use detector::Detector;
+use crate::buffers::Buffers;
+use crate::chunks::{Stop, run_script};
 use std::fs::{File, OpenOptions};
 use std::io;
 use std::io::Write;
 use std::rt::Files;
 use std::str::from_utf8;
-use text::CARRY_BYTES;
 
 // A chunk has at most this many bytes.
 const CHUNK_BYTES: usize = 65536;
 
-// The out buffer has room for an answer with all tables after it, and for the totals.
-const OUT_BYTES: usize = 131072;
-
 // A reason why something failed has at most this many bytes.
 const REASON_BYTES: usize = 512;
-
-// Returns an out buffer of zeros.
-fn out_buffer() -> [u8; OUT_BYTES]
-    ensures { out_bytes ≡ length result }
-{
-    [0; OUT_BYTES]
-}
 
 // Writes a text to standard error.
 fn print_error(rt: &HostRuntime, text: &[u8]) {
@@ -66,19 +52,16 @@ fn refuse(rt: &HostRuntime, program: &[u8], name: &[u8], error: io::Error) {
     );
 }
 
-// Prints on standard error what failed, and returns true if more can be written.
-fn explain(rt: &HostRuntime, program: &[u8], name: &[u8], ending: Ending) -> bool {
-    match ending {
-        Ending::Ended => true,
-        Ending::NotRead(error) => {
+// Takes how a script ended. Prints on standard error that it cannot be read, if that stopped it, or returns why
+// nothing more can be written.
+fn go_on(rt: &HostRuntime, program: &[u8], name: &[u8], ended: Result<(), Stop>) -> io::Result<()> {
+    match ended {
+        Ok(()) => Ok(()),
+        Err(Stop::NotRead(error)) => {
             refuse(rt, program, name, error);
-            true
+            Ok(())
         }
-        Ending::NotWritten(error) => {
-            print_error(rt, program);
-            fail(rt, b": cannot write", error);
-            false
-        }
+        Err(Stop::NotWritten(error)) => Err(error),
     }
 }
 
@@ -90,59 +73,49 @@ fn open_script(rt: &HostRuntime, name: &[u8]) -> io::Result<File> {
     }
 }
 
-// Runs the script that argument i names, and returns true if more can be written. A script that cannot be read
-// does not stop the ones after it.
+// Runs the script in the file of this name, or returns what stopped it.
 fn run_file(
     rt: &HostRuntime,
-    program: &[u8],
+    name: &[u8],
     tables: bool,
-    i: usize,
     inp: &mut [u8],
-    carry: &mut [u8],
-    out: &mut [u8],
-    buf: &mut [u8],
-) -> bool
-    requires { (0 < length inp.old) × (length carry.old ≡ carry_bytes) × (length out.old ≡ out_bytes) × (length buf.old ≡ buffer_bytes) }
+    buffers: &mut Buffers,
+) -> Result<(), Stop>
+    requires { 0 < length inp.old }
 {
-    let mut path = [0u8; ARGUMENT_BYTES];
-    let n = argument(rt, i, &mut path);
-    match open_script(rt, &path[..n]) {
-        Ok(mut file) => {
-            let ending = run_script(&mut file, &mut rt.stdout(), tables, inp, carry, out, buf);
-            explain(rt, program, &path[..n], ending)
-        }
-        Err(error) => {
-            refuse(rt, program, &path[..n], error);
-            true
-        }
-    }
+    let mut file = open_script(rt, name).map_err(Stop::NotRead)?;
+    run_script(&mut file, &mut rt.stdout(), tables, inp, buffers)
 }
 
-// Runs each script from the empty state, and stops where nothing more can be written.
-pub(crate) fn run_scripts(rt: &HostRuntime, program: &[u8], tables: bool) {
+// Runs each script from the empty state, or returns why nothing more can be written. A script that cannot be read
+// does not stop the ones after it.
+fn run_each(rt: &HostRuntime, program: &[u8], tables: bool) -> io::Result<()> {
     let mut inp = [0u8; CHUNK_BYTES];
-    let mut out = out_buffer();
-    let mut carry = [0u8; CARRY_BYTES];
-    let mut buf = [0u8; Detector::BUFFER_BYTES];
+    let mut buffers = Buffers::new();
     let n = argument_count(rt);
     if n < 2 {
-        let ending = run_script(
+        let ended = run_script(
             &mut rt.stdin(),
             &mut rt.stdout(),
             tables,
             &mut inp,
-            &mut carry,
-            &mut out,
-            &mut buf,
+            &mut buffers,
         );
-        explain(rt, program, b"standard input", ending);
-        return;
+        return go_on(rt, program, b"standard input", ended);
     }
     for i in 1..n {
-        if !run_file(
-            rt, program, tables, i, &mut inp, &mut carry, &mut out, &mut buf,
-        ) {
-            return;
-        }
+        let mut path = [0u8; ARGUMENT_BYTES];
+        let name = argument(rt, i, &mut path).unwrap_or(b"");
+        let ended = run_file(rt, name, tables, &mut inp, &mut buffers);
+        go_on(rt, program, name, ended)?;
+    }
+    Ok(())
+}
+
+// Runs each script from the empty state. Prints on standard error why nothing more can be written, if that stopped them.
+pub(crate) fn run_scripts(rt: &HostRuntime, program: &[u8], tables: bool) {
+    if let Err(error) = run_each(rt, program, tables) {
+        print_error(rt, program);
+        fail(rt, b": cannot write", error);
     }
 }

@@ -1,4 +1,5 @@
 -- Laws about reading a line and printing an event; `reads_back` joins the two.
+pub mod Outcomes
 pub mod Table
 pub mod Steps
 pub mod Printing

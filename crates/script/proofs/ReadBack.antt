@@ -2,6 +2,7 @@
 use mathlib.Core.Path.{◌≡◌, refl, sym, ap, ◌∙◌}
 use mathlib.Core.Bool.{Bool, true, false, cond, true≢false}
 use mathlib.Core.Logic.{⊎_elim}
+use Rattle.std.specs.Prelude.{Option, Some, None}
 use mathlib.Core.List.{List, [], ◌∷◌}
 use Prim.Native.Nat.{ℕ, zero, suc, ◌<◌, ◌≤◌}
 use native.Mathlib.Omega.{arith}
@@ -23,28 +24,22 @@ use Rattle.waits.specs.declared.outcome.Outcome.TheVariants as came
 use Rattle.waits.specs.declared.outcome.Tried.TheVariants as tried
 use Rattle.detector.specs.declared.event.Event.{Event}
 use Rattle.detector.specs.declared.event.Event.TheVariants as event
-use Rattle.text.specs.declared.number.NumberRead.{NumberRead}
-use Rattle.text.specs.declared.number.NumberRead.TheVariants as number
-use Rattle.script.specs.declared.outcome.OutcomeRead.{OutcomeRead}
-use Rattle.script.specs.declared.outcome.OutcomeRead.TheVariants as outcome
-use Rattle.script.specs.declared.line.Line.{Line}
-use Rattle.script.specs.declared.line.Line.TheVariants as line
 use Rattle.text.proofs.Cut.{tabless, all_tabless, cut_joined}
 use Rattle.script.proofs.Table.{spelling}
 
 -- ---- The numbers below 1,000: a test that is computed for each of them, and the law that it gives
 
 -- Returns true if a number was read and it is n.
-abbrev is_number : ℕ → NumberRead → Bool
-is_number n (number.Is m) = eqb m n
-is_number n number.Bad = false
+abbrev is_number : ℕ → Option ℕ → Bool
+is_number n (Some m) = eqb m n
+is_number n None = false
 
 -- Returns true if a hint was read and it is n.
-abbrev is_hint : ℕ → OutcomeRead → Bool
-is_hint n (outcome.Is came.Took) = false
-is_hint n (outcome.Is came.Blocked) = false
-is_hint n (outcome.Is (came.Hinted m)) = eqb m n
-is_hint n outcome.Bad = false
+abbrev is_hint : ℕ → Option Outcome → Bool
+is_hint n (Some came.Took) = false
+is_hint n (Some came.Blocked) = false
+is_hint n (Some (came.Hinted m)) = eqb m n
+is_hint n None = false
 
 -- Returns true if n, printed, reads back as a number and as a hint, and holds no tab.
 abbrev good : ℕ → Bool
@@ -66,24 +61,24 @@ good_at (suc k) n h g =
     let w : n ≤ k = omega arith in
     ⊎_elim (λ e. rw e b.0) (λ l. good_at k n b.1 l) (eq-or-lt_of_le w)
 
-is_number_lem : (n : ℕ) (x : NumberRead) → is_number n x ≡ true → x ≡ number.Is n
-is_number_lem n (number.Is m) h = ap number.Is (eqb-true m n h)
-is_number_lem n number.Bad h = absurd (true≢false (sym h))
+is_number_lem : (n : ℕ) (x : Option ℕ) → is_number n x ≡ true → x ≡ Some n
+is_number_lem n (Some m) h = ap Some (eqb-true m n h)
+is_number_lem n None h = absurd (true≢false (sym h))
 
-is_hint_lem : (n : ℕ) (x : OutcomeRead) → is_hint n x ≡ true → x ≡ outcome.Is (came.Hinted n)
-is_hint_lem n (outcome.Is came.Took) h = absurd (true≢false (sym h))
-is_hint_lem n (outcome.Is came.Blocked) h = absurd (true≢false (sym h))
-is_hint_lem n (outcome.Is (came.Hinted m)) h = ap (λ (k : ℕ). outcome.Is (came.Hinted k)) (eqb-true m n h)
-is_hint_lem n outcome.Bad h = absurd (true≢false (sym h))
+is_hint_lem : (n : ℕ) (x : Option Outcome) → is_hint n x ≡ true → x ≡ Some (came.Hinted n)
+is_hint_lem n (Some came.Took) h = absurd (true≢false (sym h))
+is_hint_lem n (Some came.Blocked) h = absurd (true≢false (sym h))
+is_hint_lem n (Some (came.Hinted m)) h = ap (λ (k : ℕ). Some (came.Hinted k)) (eqb-true m n h)
+is_hint_lem n None h = absurd (true≢false (sym h))
 
 module _ (n : ℕ) (h : n < 1000) where
   tests : (is_number n (number_of (decimal n)) ≡ true) × (cond (is_hint n (outcome_of (decimal n))) (tabless (decimal n)) false ≡ true)
   tests = both (is_number n (number_of (decimal n))) _ (good_at 1000 n computed (omega arith))
 
-  pub number_back : number_of (decimal n) ≡ number.Is n
+  pub number_back : number_of (decimal n) ≡ Some n
   number_back = is_number_lem n (number_of (decimal n)) tests.0
 
-  hint_back : outcome_of (decimal n) ≡ outcome.Is (came.Hinted n)
+  hint_back : outcome_of (decimal n) ≡ Some (came.Hinted n)
   hint_back = is_hint_lem n (outcome_of (decimal n)) (both (is_hint n (outcome_of (decimal n))) (tabless (decimal n)) tests.1).0
 
   number_tabless : tabless (decimal n) ≡ true
@@ -92,7 +87,7 @@ module _ (n : ℕ) (h : n < 1000) where
   number_short : length (decimal n) ≤ 3
   number_short = decimal_short 2 n (omega arith)
 
-pub outcome_back : (o : Outcome) → AllBelow 1000 (hints_of o) → outcome_of (outcome_text o) ≡ outcome.Is o
+pub outcome_back : (o : Outcome) → AllBelow 1000 (hints_of o) → outcome_of (outcome_text o) ≡ Some o
 unfolding outcome_of equal
 outcome_back came.Took h = refl
 outcome_back came.Blocked h = refl
@@ -111,12 +106,12 @@ outcome_short (came.Hinted n) h = omega (arith, number_short n (h 0))
 -- ---- The words
 
 -- Returns what a word makes of the fields after it.
-abbrev made : Parts → Line
+abbrev made : Parts → Option Event
 made (one w a) = (shape w).one a
 made (two w a b) = (shape w).two a b
 made (three w a b o) = (shape w).three a b o
 
-made_event : (e : Event) → made (parts_of e) ≡ line.Event e
+made_event : (e : Event) → made (parts_of e) ≡ Some e
 made_event (event.MutexAttempt t l o) = refl
 made_event (event.MutexAcquired t l) = refl
 made_event (event.MutexReleased t l) = refl
@@ -142,22 +137,19 @@ joined_read : (w : Word) (fs : List (List ℕ)) → all_tabless fs → length (j
 unfolding line_of
 joined_read w fs g h = rw (le-leb (length (joined (spelled w ∷ fs))) 40 h, cut_joined (spelled w) fs (spelling w).no_tab g, (spelling w).found)
 
-two_letters : (w : Word) → length (spelled w) ≡ 2
-two_letters w = ap length (spelling w).letters_are
-
 parts_back : (p : Parts) → AllBelow 1000 (parts_numbers p) → line_of (parts_text p) ≡ made p
 unfolding parts_text tabbed after_word after_one after_two
 parts_back (one w a) h =
-    joined_read w (decimal a ∷ []) (number_tabless a (h 0), omega arith) (simp (length-append, two_letters) (omega (arith, number_short a (h 0))))
+    joined_read w (decimal a ∷ []) (number_tabless a (h 0), omega arith) (simp (length-append, (spelling w).two) (omega (arith, number_short a (h 0))))
     ∙ rw (number_back a (h 0))
 parts_back (two w a b) h =
-    joined_read w (decimal a ∷ decimal b ∷ []) (number_tabless a (h 0), (number_tabless b (h 1), omega arith)) (simp (length-append, two_letters) (omega (arith, number_short a (h 0), number_short b (h 1))))
+    joined_read w (decimal a ∷ decimal b ∷ []) (number_tabless a (h 0), (number_tabless b (h 1), omega arith)) (simp (length-append, (spelling w).two) (omega (arith, number_short a (h 0), number_short b (h 1))))
     ∙ rw (number_back a (h 0), number_back b (h 1))
 parts_back (three w a b o) h =
-    joined_read w (decimal a ∷ decimal b ∷ outcome_text o ∷ []) (number_tabless a (h 0), (number_tabless b (h 1), (outcome_tabless o (λ i. h (suc (suc i))), omega arith))) (simp (length-append, two_letters) (omega (arith, number_short a (h 0), number_short b (h 1), outcome_short o (λ i. h (suc (suc i))))))
+    joined_read w (decimal a ∷ decimal b ∷ outcome_text o ∷ []) (number_tabless a (h 0), (number_tabless b (h 1), (outcome_tabless o (λ i. h (suc (suc i))), omega arith))) (simp (length-append, (spelling w).two) (omega (arith, number_short a (h 0), number_short b (h 1), outcome_short o (λ i. h (suc (suc i))))))
     ∙ rw (number_back a (h 0), number_back b (h 1), outcome_back o (λ i. h (suc (suc i))))
 
 -- For every word at once: an event with numbers of at most 999, printed, reads back as itself.
-pub reads_back : (e : Event) → EventBelow 1000 e → line_of (event_text e) ≡ line.Event e
+pub reads_back : (e : Event) → EventBelow 1000 e → line_of (event_text e) ≡ Some e
 unfolding event_text
 reads_back e h = parts_back (parts_of e) h ∙ made_event e

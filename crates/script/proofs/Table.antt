@@ -1,124 +1,113 @@
--- The words are found by the numbers that the code has for them.
-use mathlib.Core.Path.{◌≡◌, refl, sym, ap, ◌∙◌}
+-- The words are found by their letters.
+use mathlib.Core.Path.{◌≡◌, refl, sym, ◌∙◌}
 use mathlib.Core.Bool.{Bool, true, false, cond}
 use mathlib.Core.List.{List, [], ◌∷◌}
-use Prim.Native.Nat.{ℕ, ◌+◌, ◌*◌, ◌/◌, ◌%◌, ◌<◌}
-use native.Mathlib.Omega.{arith}
-use borrow.Author.Tests.{eq-eqb, ne_eqb, eqb-true, eqb-false, ltb-true}
-use lib.Dec.{eqb, ltb}
+use Prim.Native.Nat.{ℕ}
+use borrow.Author.Tests.{eqb-true}
+use lib.Dec.{eqb}
 use lib.ListN.{length, get_or}
+use Rattle.std.specs.Prelude.{Option, None}
+use Rattle.std.proofs.lemmas.Slice.Eq.{HasBytesAt, text_from_reads}
 use Rattle.text.specs.Bytes.{equal}
-use Rattle.script.specs.Words.{Word, ma, mc, mr, md, ra, rc, rt, rr, wa, wc, wr, rd, cn, cd, cb, c1, ca, ce, words, spelled, Shape, no_word, shape, shape_in, shape_of}
-use Rattle.script.specs.Code.{key_of, key, letters}
 use Rattle.text.proofs.Cut.{tabless}
+use Rattle.script.specs.Words.{Word, ma, mc, mr, md, ra, rc, rt, rr, wa, wc, wr, rd, cn, cd, cb, c1, ca, ce, spelled, Shape, shape, no_word, shape_of}
 use Rattle.waits.specs.declared.outcome.Outcome.{Outcome}
-use Rattle.script.specs.declared.line.Line.{Line}
+use Rattle.detector.specs.declared.event.Event.{Event}
 
--- States that the letters of a word are those of its number, which fits two bytes and is not 0, that they hold
--- no tab, and that they find the shape of this word.
+-- States that a word has two letters and no tab, and that its letters find the shape of this word.
 pub record Spelled (w : Word) : Type 0 where
-  pub letters_are : spelled w ≡ letters (key w)
-  pub some : ltb 0 (key w) ≡ true
-  pub small : ltb (key w) 65536 ≡ true
+  pub two : length (spelled w) ≡ 2
   pub no_tab : tabless (spelled w) ≡ true
   pub found : shape_of (spelled w) ≡ shape w
 
 -- Returns these facts as one record.
-abbrev known : {w : Word} → spelled w ≡ letters (key w) → ltb 0 (key w) ≡ true → ltb (key w) 65536 ≡ true → tabless (spelled w) ≡ true → shape_of (spelled w) ≡ shape w → Spelled w
-known a b c d e = record { letters_are = a; some = b; small = c; no_tab = d; found = e }
+abbrev known : {w : Word} → length (spelled w) ≡ 2 → tabless (spelled w) ≡ true → shape_of (spelled w) ≡ shape w → Spelled w
+known a b c = record { two = a; no_tab = b; found = c }
 
 pub spelling : (w : Word) → Spelled w
 unfolding shape_of equal
-spelling ma = known refl refl refl refl refl
-spelling mc = known refl refl refl refl refl
-spelling mr = known refl refl refl refl refl
-spelling md = known refl refl refl refl refl
-spelling ra = known refl refl refl refl refl
-spelling rc = known refl refl refl refl refl
-spelling rt = known refl refl refl refl refl
-spelling rr = known refl refl refl refl refl
-spelling wa = known refl refl refl refl refl
-spelling wc = known refl refl refl refl refl
-spelling wr = known refl refl refl refl refl
-spelling rd = known refl refl refl refl refl
-spelling cn = known refl refl refl refl refl
-spelling cd = known refl refl refl refl refl
-spelling cb = known refl refl refl refl refl
-spelling c1 = known refl refl refl refl refl
-spelling ca = known refl refl refl refl refl
-spelling ce = known refl refl refl refl refl
+spelling ma = known refl refl refl
+spelling mc = known refl refl refl
+spelling mr = known refl refl refl
+spelling md = known refl refl refl
+spelling ra = known refl refl refl
+spelling rc = known refl refl refl
+spelling rt = known refl refl refl
+spelling rr = known refl refl refl
+spelling wa = known refl refl refl
+spelling wc = known refl refl refl
+spelling wr = known refl refl refl
+spelling rd = known refl refl refl
+spelling cn = known refl refl refl
+spelling cd = known refl refl refl
+spelling cb = known refl refl refl
+spelling c1 = known refl refl refl
+spelling ca = known refl refl refl
+spelling ce = known refl refl refl
 
--- ---- The number of a text
+-- A field with the letters of a word has the shape of this word.
+pub shape_at : (w : Word) (f : List ℕ) → length f ≡ 2 → HasBytesAt f 0 (spelled w) → shape_of f ≡ shape w
+shape_at w f h g = rw (text_from_reads f (spelled w) (h ∙ sym (spelling w).two) g) (spelling w).found
 
-pub key_none : (w : List ℕ) → (length w ≡ 2 → ⊥) → 0 ≡ key_of w
-key_none [] h = refl
-key_none (a ∷ []) h = refl
-key_none (a ∷ b ∷ []) h = absurd (h refl)
-key_none (a ∷ b ∷ c ∷ w) h = refl
+-- A field that spells no word has the shape of no word.
+pub shape_none : (f : List ℕ) → ((w : Word) → equal f (spelled w) ≡ false) → shape_of f ≡ no_word
+unfolding shape_of
+shape_none f h = rw (h ma, h mc, h mr, h md, h ra, h rc, h rt, h rr, h wa, h wc, h wr, h rd, h cn, h cd, h cb, h c1, h ca, h ce) refl
 
-pub key_two : (w : List ℕ) → length w ≡ 2 → get_or w 0 0 * 256 + get_or w 1 0 ≡ key_of w
-key_two [] h = absurd (omega arith)
-key_two (a ∷ []) h = absurd (omega arith)
-key_two (a ∷ b ∷ []) h = refl
-key_two (a ∷ b ∷ c ∷ w) h = absurd (omega arith)
+-- ---- A field that has the letters of no word that takes so many fields
 
-pair : (t u : Bool) (a b k : ℕ) → a < 256 → b < 256 → k < 65536 → eqb a (k / 256 % 256) ≡ t → eqb b (k % 256) ≡ u → cond t (cond u true false) false ≡ eqb (a * 256 + b) k
-pair true true a b k h g s e f = sym (eq-eqb (a * 256 + b) k (omega (arith, eqb-true a (k / 256 % 256) e, eqb-true b (k % 256) f)))
-pair true false a b k h g s e f = sym (ne_eqb (a * 256 + b) k (λ q. eqb-false b (k % 256) f (omega arith)))
-pair false true a b k h g s e f = sym (ne_eqb (a * 256 + b) k (λ q. eqb-false a (k / 256 % 256) e (omega arith)))
-pair false false a b k h g s e f = sym (ne_eqb (a * 256 + b) k (λ q. eqb-false b (k % 256) f (omega arith)))
+-- States that the field has the two letters a and b.
+pub record Letters (f : List ℕ) (a b : ℕ) : Type 0 where
+  pub two : length f ≡ 2
+  pub first : get_or f 0 0 ≡ a
+  pub second : get_or f 1 0 ≡ b
 
 first_only : (t u : Bool) → cond t (cond u false false) false ≡ false
 first_only true true = refl
 first_only true false = refl
 first_only false u = refl
 
-equal_letters : (f : List ℕ) (k : ℕ) → ((i : ℕ) → get_or f i 0 < 256) → 0 < k → k < 65536 → equal f (letters k) ≡ eqb (key_of f) k
+differs : (f : List ℕ) (a b : ℕ) → (Letters f a b → ⊥) → equal f (a ∷ b ∷ []) ≡ false
 unfolding equal
-equal_letters [] k h p s = sym (ne_eqb 0 k (λ q. omega arith))
-equal_letters (a ∷ []) k h p s = first (eqb a (k / 256 % 256)) ∙ sym (ne_eqb 0 k (λ q. omega arith))
+differs [] a b h = refl
+differs (x ∷ []) a b h = one (eqb x a)
   where
-    first : (t : Bool) → cond t false false ≡ false
-    first true = refl
-    first false = refl
-equal_letters (a ∷ b ∷ []) k h p s = pair (eqb a (k / 256 % 256)) (eqb b (k % 256)) a b k (h 0) (h 1) s refl refl
-equal_letters (a ∷ b ∷ c ∷ f) k h p s = first_only (eqb a (k / 256 % 256)) (eqb b (k % 256)) ∙ sym (ne_eqb 0 k (λ q. omega arith))
+    one : (t : Bool) → cond t false false ≡ false
+    one true = refl
+    one false = refl
+differs (x ∷ y ∷ []) a b h = both (eqb x a) (eqb y b) refl refl
+  where
+    both : (t u : Bool) → eqb x a ≡ t → eqb y b ≡ u → cond t (cond u true false) false ≡ false
+    both true true e g = absurd (h (record { two = refl; first = eqb-true x a e; second = eqb-true y b g }))
+    both true false e g = refl
+    both false u e g = refl
+differs (x ∷ y ∷ z ∷ f) a b h = first_only (eqb x a) (eqb y b)
 
--- ---- The shape, found by the number
-
--- Returns the shape of the word among ws whose number is k, or no_word if there is none.
-abbrev shape_by : List Word → ℕ → Shape
-shape_by [] k = no_word
-shape_by (w ∷ ws) k = cond (eqb k (key w)) (shape w) (shape_by ws k)
-
--- Returns the shape of the word whose number is k, or no_word if there is none.
-unfoldable pub shape_for : ℕ → Shape
-shape_for k = shape_by words k
-
-by_number : (ws : List Word) (f : List ℕ) → ((i : ℕ) → get_or f i 0 < 256) → shape_in ws f ≡ shape_by ws (key_of f)
-by_number [] f h = refl
-by_number (w ∷ ws) f h =
-    let e : equal f (spelled w) ≡ eqb (key_of f) (key w) = ap (λ (x : List ℕ). equal f x) (spelling w).letters_are ∙ equal_letters f (key w) h (ltb-true 0 (key w) (spelling w).some) (ltb-true (key w) 65536 (spelling w).small) in
-    rw (e, by_number ws f h)
-
-pub shape_at : (f : List ℕ) (k : ℕ) → ((i : ℕ) → get_or f i 0 < 256) → k ≡ key_of f → shape_of f ≡ shape_for k
-unfolding shape_of shape_for
-shape_at f k h e = by_number words f h ∙ ap (λ (n : ℕ). shape_by words n) (sym e)
-
--- ---- A field of a shape that depends on a test
-
-pub one_pick : (t : Bool) (s r : Shape) (a : ℕ) → (cond t s r).one a ≡ cond t (s.one a) (r.one a)
+-- A field of a shape that depends on a test.
+one_pick : (t : Bool) (s r : Shape) (a : ℕ) → (cond t s r).one a ≡ cond t (s.one a) (r.one a)
 one_pick true s r a = refl
 one_pick false s r a = refl
 
-pub two_pick : (t : Bool) (s r : Shape) (a b : ℕ) → (cond t s r).two a b ≡ cond t (s.two a b) (r.two a b)
+two_pick : (t : Bool) (s r : Shape) (a b : ℕ) → (cond t s r).two a b ≡ cond t (s.two a b) (r.two a b)
 two_pick true s r a b = refl
 two_pick false s r a b = refl
 
-pub three_pick : (t : Bool) (s r : Shape) (a b : ℕ) (o : Outcome) → (cond t s r).three a b o ≡ cond t (s.three a b o) (r.three a b o)
+three_pick : (t : Bool) (s r : Shape) (a b : ℕ) (o : Outcome) → (cond t s r).three a b o ≡ cond t (s.three a b o) (r.three a b o)
 three_pick true s r a b o = refl
 three_pick false s r a b o = refl
 
-pub cond_same : (t : Bool) (x : Line) → cond t x x ≡ x
+cond_same : (t : Bool) (x : Option Event) → cond t x x ≡ x
 cond_same true x = refl
 cond_same false x = refl
+
+pub one_none : (f : List ℕ) (a : ℕ) → (Letters f 109 100 → ⊥) → (Letters f 114 100 → ⊥) → (Letters f 99 110 → ⊥) → (Letters f 99 100 → ⊥) → (Letters f 99 49 → ⊥) → (Letters f 99 97 → ⊥) → None ≡ (shape_of f).one a
+unfolding shape_of
+one_none f a h1 h2 h3 h4 h5 h6 = sym (simp (one_pick, cond_same, differs f 109 100 h1, differs f 114 100 h2, differs f 99 110 h3, differs f 99 100 h4, differs f 99 49 h5, differs f 99 97 h6))
+
+pub two_none : (f : List ℕ) (a b : ℕ) → (Letters f 109 99 → ⊥) → (Letters f 109 114 → ⊥) → (Letters f 114 99 → ⊥) → (Letters f 114 114 → ⊥) → (Letters f 119 99 → ⊥) → (Letters f 119 114 → ⊥) → None ≡ (shape_of f).two a b
+unfolding shape_of
+two_none f a b h1 h2 h3 h4 h5 h6 = sym (simp (two_pick, cond_same, differs f 109 99 h1, differs f 109 114 h2, differs f 114 99 h3, differs f 114 114 h4, differs f 119 99 h5, differs f 119 114 h6))
+
+pub three_none : (f : List ℕ) (a b : ℕ) (o : Outcome) → (Letters f 109 97 → ⊥) → (Letters f 114 97 → ⊥) → (Letters f 119 97 → ⊥) → (Letters f 114 116 → ⊥) → (Letters f 99 98 → ⊥) → (Letters f 99 101 → ⊥) → None ≡ (shape_of f).three a b o
+unfolding shape_of
+three_none f a b o h1 h2 h3 h4 h5 h6 = sym (simp (three_pick, cond_same, differs f 109 97 h1, differs f 114 97 h2, differs f 119 97 h3, differs f 114 116 h4, differs f 99 98 h5, differs f 99 101 h6))

@@ -1,5 +1,5 @@
 -- These definitions give the 18 words: how each is spelled, and which event it makes with the fields after it.
-use Rattle.std.specs.Prelude.{ℕ, cond, List, [], ◌∷◌}
+use Rattle.std.specs.Prelude.{ℕ, cond, List, [], ◌∷◌, Option, Some, None, option_map}
 use Rattle.text.specs.Bytes.{text, equal}
 use Rattle.waits.specs.declared.outcome.Outcome.{Outcome}
 use Rattle.waits.specs.declared.outcome.Outcome.TheVariants as outcome
@@ -7,8 +7,6 @@ use Rattle.waits.specs.declared.outcome.Tried.{Tried}
 use Rattle.waits.specs.declared.outcome.Tried.TheVariants as tried
 use Rattle.detector.specs.declared.event.Event.{Event}
 use Rattle.detector.specs.declared.event.Event.TheVariants as event
-use Rattle.script.specs.declared.line.Line.{Line}
-use Rattle.script.specs.declared.line.Line.TheVariants as line
 
 -- The first four words are about mutexes, the next eight about rwlocks, the last six about condvars.
 pub data Word : Type 0 where
@@ -42,45 +40,45 @@ spelled ce = text "ce"
 -- A shape gives what a word makes of one number after it, of two, and of two and a third field. The third field
 -- is read as an outcome, so a number there comes as a hint.
 pub record Shape : Type 0 where
-  pub one : ℕ → Line
-  pub two : ℕ → ℕ → Line
-  pub three : ℕ → ℕ → Outcome → Line
+  pub one : ℕ → Option Event
+  pub two : ℕ → ℕ → Option Event
+  pub three : ℕ → ℕ → Outcome → Option Event
 
 -- Returns the shape of a word that takes a lock or a condvar and makes the event e of it.
 abbrev pub single : (ℕ → Event) → Shape
-single e = record { one = λ a. line.Event (e a); two = λ a b. line.Unreadable; three = λ a b o. line.Unreadable }
+single e = record { one = λ a. Some (e a); two = λ a b. None; three = λ a b o. None }
 
 -- Returns the shape of a word that takes a thread and a lock.
 abbrev pub tl : (ℕ → ℕ → Event) → Shape
-tl e = record { one = λ a. line.Unreadable; two = λ a b. line.Event (e a b); three = λ a b o. line.Unreadable }
+tl e = record { one = λ a. None; two = λ a b. Some (e a b); three = λ a b o. None }
 
 -- Returns the shape of a word that takes a thread, a lock and an outcome.
 abbrev pub tlo : (ℕ → ℕ → Outcome → Event) → Shape
-tlo e = record { one = λ a. line.Unreadable; two = λ a b. line.Unreadable; three = λ a b o. line.Event (e a b o) }
+tlo e = record { one = λ a. None; two = λ a b. None; three = λ a b o. Some (e a b o) }
 
--- Returns the event for an outcome without a hint, or Unreadable for a hint.
-abbrev pub no_hint : (Tried → Event) → Outcome → Line
-no_hint e outcome.Took = line.Event (e tried.Taken)
-no_hint e outcome.Blocked = line.Event (e tried.Missed)
-no_hint e (outcome.Hinted h) = line.Unreadable
+-- Returns how a try came out, or None for a hint.
+abbrev pub no_hint : Outcome → Option Tried
+no_hint outcome.Took = Some tried.Taken
+no_hint outcome.Blocked = Some tried.Missed
+no_hint (outcome.Hinted h) = None
 
 -- Returns the shape of a word that takes a thread, a lock and an outcome that is no hint.
 abbrev pub tlx : (ℕ → ℕ → Tried → Event) → Shape
-tlx e = record { one = λ a. line.Unreadable; two = λ a b. line.Unreadable; three = λ a b o. no_hint (e a b) o }
+tlx e = record { one = λ a. None; two = λ a b. None; three = λ a b o. option_map (e a b) (no_hint o) }
 
--- Returns the event for a number that comes as a hint, or Unreadable for any other outcome.
-abbrev pub as_number : (ℕ → Event) → Outcome → Line
-as_number e outcome.Took = line.Unreadable
-as_number e outcome.Blocked = line.Unreadable
-as_number e (outcome.Hinted n) = line.Event (e n)
+-- Returns the number that comes as a hint, or None for any other outcome.
+abbrev pub as_number : Outcome → Option ℕ
+as_number outcome.Took = None
+as_number outcome.Blocked = None
+as_number (outcome.Hinted n) = Some n
 
 -- Returns the shape of a word that takes a thread, a condvar and a lock.
 abbrev pub tcl : (ℕ → ℕ → ℕ → Event) → Shape
-tcl e = record { one = λ a. line.Unreadable; two = λ a b. line.Unreadable; three = λ a b o. as_number (e a b) o }
+tcl e = record { one = λ a. None; two = λ a b. None; three = λ a b o. option_map (e a b) (as_number o) }
 
 -- This is the shape of a field that is no word: nothing reads after it.
 abbrev pub no_word : Shape
-no_word = record { one = λ a. line.Unreadable; two = λ a b. line.Unreadable; three = λ a b o. line.Unreadable }
+no_word = record { one = λ a. None; two = λ a b. None; three = λ a b o. None }
 
 -- Returns the shape of a word.
 abbrev pub shape : Word → Shape

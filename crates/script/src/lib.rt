@@ -4,7 +4,6 @@
 mod line;
 mod outcome;
 mod print;
-mod words;
 
-pub use line::{Line, read_line};
+pub use line::read_line;
 pub use print::{EVENT_BYTES, put_event};

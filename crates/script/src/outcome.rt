@@ -3,29 +3,20 @@
 ghost use Rattle.std.specs.Prelude.{◌≡◌};
 ghost use Rattle.script.specs.Outcomes.{outcome_of};
 
-use text::{NumberRead, equal, read_number};
+use text::read_number;
 use waits::Outcome;
 
-// A field reads as an outcome, or it spells none.
-#[derive(Drop)]
-pub enum OutcomeRead {
-    Is(Outcome),
-    Bad,
-}
-
-// Returns the outcome that a field spells, or Bad if it spells none.
-pub(crate) fn read_outcome(s: &[u8]) -> OutcomeRead
+// Returns the outcome that a field spells, or None if it spells none.
+#[tactic(auto, using(crate::proofs::Outcomes::hinted, crate::proofs::Outcomes::took, crate::proofs::Outcomes::blocked, crate::proofs::Outcomes::none))]
+pub(crate) fn read_outcome(s: &[u8]) -> Option<Outcome>
     ensures { result ≡ outcome_of s.now }
 {
-    if equal(s, b"took") {
-        return OutcomeRead::Is(Outcome::Took);
+    if let Some(h) = read_number(s) {
+        return Some(Outcome::Hinted(h));
     }
-    if equal(s, b"-") {
-        return OutcomeRead::Is(Outcome::Blocked);
+    match s {
+        b"took" => Some(Outcome::Took),
+        b"-" => Some(Outcome::Blocked),
+        _ => None,
     }
-    let n = read_number(s);
-    let NumberRead::Is(h) = n else {
-        return OutcomeRead::Bad;
-    };
-    OutcomeRead::Is(Outcome::Hinted(h))
 }

@@ -2,17 +2,8 @@
 // event it prints `ok` and the number of reports, or `no` and the refusal, and then the bytes of the first report.
 #![tactic(auto)]
 
-ghost use Rattle.std.specs.Prelude.{◌<◌};
-
-use detector::{Detector, Event, Reply, StuckReply};
+use detector::{Detector, Event, Refusal};
 use waits::{Outcome, Tried, Waits};
-
-// Returns the byte's value, which the contract keeps below 256.
-fn wide(x: u8) -> usize
-    ensures { result < 256 }
-{
-    x as usize
-}
 
 // Writes a text to standard output.
 fn print(rt: &HostRuntime, text: &[u8]) {
@@ -26,21 +17,17 @@ fn print_number(rt: &HostRuntime, n: usize) {
 
 // Prints the bytes of the first report: the number of its entries, and then the entries.
 fn show_report(rt: &HostRuntime, buf: &[u8; Detector::BUFFER_BYTES]) {
-    let n = wide(buf[0]);
-    let mut i: usize = 0;
-    while i < Waits::REPORT_BYTES {
-        if i <= Waits::ENTRY_BYTES * n {
-            print(rt, b" ");
-            print_number(rt, wide(buf[i]));
-        }
-        i += 1;
+    let end = 1 + Waits::ENTRY_BYTES * usize::from(buf[0]);
+    for &byte in &buf[..end] {
+        print(rt, b" ");
+        print_number(rt, usize::from(byte));
     }
 }
 
 // Prints a reply as a line, with the bytes of the first report if there is one.
-fn show(rt: &HostRuntime, reply: Reply, buf: &[u8; Detector::BUFFER_BYTES]) {
+fn show(rt: &HostRuntime, reply: Result<usize, Refusal>, buf: &[u8; Detector::BUFFER_BYTES]) {
     match reply {
-        Reply::Reports(n) => {
+        Ok(n) => {
             print(rt, b"ok ");
             print_number(rt, n);
             if 0 < n {
@@ -48,53 +35,45 @@ fn show(rt: &HostRuntime, reply: Reply, buf: &[u8; Detector::BUFFER_BYTES]) {
                 show_report(rt, buf);
             }
         }
-        Reply::Refused(k) => {
+        Err(refusal) => {
             print(rt, b"no ");
-            print_number(rt, wide(k));
+            print_number(rt, usize::from(u8::from(refusal)));
         }
     }
     print(rt, b"\n");
 }
 
-// Returns the state after one event, and prints what the call gave back.
-fn play(rt: &HostRuntime, d: Detector, e: Event) -> Detector {
+// Takes one step, and prints what the call gave back.
+fn play(rt: &HostRuntime, d: &mut Detector, e: Event) {
     let mut buf = [0u8; Detector::BUFFER_BYTES];
-    let a = d.step(e, &mut buf);
-    let reply = a.reply;
+    let reply = d.step(e, &mut buf);
     show(rt, reply, &buf);
-    a.detector
 }
 
-// Returns the state after n equal events, and prints nothing.
-fn quietly(d0: Detector, e: Event, n: usize) -> Detector {
-    let mut d = d0;
-    let mut i = 0;
-    while i < n {
+// Takes n steps with the same event, and prints nothing.
+fn quietly(d: &mut Detector, e: Event, n: usize) {
+    for _ in 0..n {
         let mut buf = [0u8; Detector::BUFFER_BYTES];
-        let a = d.step(e, &mut buf);
-        d = a.detector;
-        i += 1;
+        let _ = d.step(e, &mut buf);
     }
-    d
 }
 
 // Session 1: two threads each hold a mutex that the other wants.
 fn p1(rt: &HostRuntime) {
     print(rt, b"P1: two mutexes taken in turns\n");
     let mut d = Detector::new();
-    d = play(rt, d, Event::MutexAttempt(1, 5, Outcome::Took));
-    d = play(rt, d, Event::MutexAttempt(2, 6, Outcome::Took));
-    d = play(rt, d, Event::MutexAttempt(1, 6, Outcome::Blocked));
-    d = play(rt, d, Event::MutexAttempt(2, 5, Outcome::Blocked));
-    totals(rt, d);
+    play(rt, &mut d, Event::MutexAttempt(1, 5, Outcome::Took));
+    play(rt, &mut d, Event::MutexAttempt(2, 6, Outcome::Took));
+    play(rt, &mut d, Event::MutexAttempt(1, 6, Outcome::Blocked));
+    play(rt, &mut d, Event::MutexAttempt(2, 5, Outcome::Blocked));
+    totals(rt, &d);
 }
 
 // Prints how many edges are stored and how many threads are stuck; of a state that is not valid only the edges.
-fn totals(rt: &HostRuntime, d: Detector) {
+fn totals(rt: &HostRuntime, d: &Detector) {
     print(rt, b"edges ");
     print_number(rt, d.edges_stored());
-    let c = d.stuck();
-    if let StuckReply::Threads(n) = c {
+    if let Ok(n) = d.stuck() {
         print(rt, b" stuck ");
         print_number(rt, n);
     }
@@ -106,179 +85,178 @@ fn totals(rt: &HostRuntime, d: Detector) {
 fn p2(rt: &HostRuntime) {
     print(rt, b"P2: relock, then with a reader between\n");
     let mut d = Detector::new();
-    d = play(rt, d, Event::MutexAttempt(1, 5, Outcome::Took));
-    d = play(rt, d, Event::MutexAttempt(1, 5, Outcome::Blocked));
-    totals(rt, d);
+    play(rt, &mut d, Event::MutexAttempt(1, 5, Outcome::Took));
+    play(rt, &mut d, Event::MutexAttempt(1, 5, Outcome::Blocked));
+    totals(rt, &d);
     d = Detector::new();
-    d = play(rt, d, Event::MutexAttempt(1, 5, Outcome::Took));
-    d = play(rt, d, Event::RwReadAttempt(2, 5, Outcome::Took));
-    d = play(rt, d, Event::MutexAttempt(1, 5, Outcome::Blocked));
-    totals(rt, d);
+    play(rt, &mut d, Event::MutexAttempt(1, 5, Outcome::Took));
+    play(rt, &mut d, Event::RwReadAttempt(2, 5, Outcome::Took));
+    play(rt, &mut d, Event::MutexAttempt(1, 5, Outcome::Blocked));
+    totals(rt, &d);
 }
 
 // Session 3: a thread that reads a lock wants to write it.
 fn p3(rt: &HostRuntime) {
     print(rt, b"P3: a reader that writes\n");
     let mut d = Detector::new();
-    d = play(rt, d, Event::RwReadAttempt(3, 7, Outcome::Took));
-    d = play(rt, d, Event::RwWriteAttempt(3, 7, Outcome::Blocked));
-    totals(rt, d);
+    play(rt, &mut d, Event::RwReadAttempt(3, 7, Outcome::Took));
+    play(rt, &mut d, Event::RwWriteAttempt(3, 7, Outcome::Blocked));
+    totals(rt, &d);
 }
 
 // Session 4: two threads that read a lock both want to write it.
 fn p4(rt: &HostRuntime) {
     print(rt, b"P4: two readers that write\n");
     let mut d = Detector::new();
-    d = play(rt, d, Event::RwReadAttempt(3, 7, Outcome::Took));
-    d = play(rt, d, Event::RwReadAttempt(4, 7, Outcome::Took));
-    d = play(rt, d, Event::RwWriteAttempt(3, 7, Outcome::Blocked));
-    totals(rt, d);
-    d = play(rt, d, Event::RwWriteAttempt(4, 7, Outcome::Blocked));
-    totals(rt, d);
+    play(rt, &mut d, Event::RwReadAttempt(3, 7, Outcome::Took));
+    play(rt, &mut d, Event::RwReadAttempt(4, 7, Outcome::Took));
+    play(rt, &mut d, Event::RwWriteAttempt(3, 7, Outcome::Blocked));
+    totals(rt, &d);
+    play(rt, &mut d, Event::RwWriteAttempt(4, 7, Outcome::Blocked));
+    totals(rt, &d);
 }
 
 // Session 5: a thread reads a lock twice, so only its second release drops the edge to it.
 fn p5(rt: &HostRuntime) {
     print(rt, b"P5: a read counted twice\n");
     let mut d = Detector::new();
-    d = play(rt, d, Event::RwReadAttempt(3, 7, Outcome::Took));
-    d = play(rt, d, Event::RwReadTry(3, 7, Tried::Taken));
-    d = play(rt, d, Event::RwWriteAttempt(4, 7, Outcome::Blocked));
-    d = play(rt, d, Event::RwReadReleased(3, 7));
-    totals(rt, d);
-    d = play(rt, d, Event::RwReadReleased(3, 7));
-    totals(rt, d);
+    play(rt, &mut d, Event::RwReadAttempt(3, 7, Outcome::Took));
+    play(rt, &mut d, Event::RwReadTry(3, 7, Tried::Taken));
+    play(rt, &mut d, Event::RwWriteAttempt(4, 7, Outcome::Blocked));
+    play(rt, &mut d, Event::RwReadReleased(3, 7));
+    totals(rt, &d);
+    play(rt, &mut d, Event::RwReadReleased(3, 7));
+    totals(rt, &d);
 }
 
 // Session 6: a lock is destroyed while a thread awaits it, and the edge of this thread stays.
 fn p6(rt: &HostRuntime) {
     print(rt, b"P6: a lock destroyed under its waiter\n");
     let mut d = Detector::new();
-    d = play(rt, d, Event::MutexAttempt(4, 1, Outcome::Took));
-    d = play(rt, d, Event::RwReadAttempt(3, 7, Outcome::Took));
-    d = play(rt, d, Event::RwWriteAttempt(4, 7, Outcome::Blocked));
-    d = play(rt, d, Event::RwExit(7));
-    d = play(rt, d, Event::MutexAttempt(3, 1, Outcome::Blocked));
-    totals(rt, d);
+    play(rt, &mut d, Event::MutexAttempt(4, 1, Outcome::Took));
+    play(rt, &mut d, Event::RwReadAttempt(3, 7, Outcome::Took));
+    play(rt, &mut d, Event::RwWriteAttempt(4, 7, Outcome::Blocked));
+    play(rt, &mut d, Event::RwExit(7));
+    play(rt, &mut d, Event::MutexAttempt(3, 1, Outcome::Blocked));
+    totals(rt, &d);
 }
 
 // Session 7: a reader comes while a writer waits, and no edge from the writer to it is stored.
 fn p7(rt: &HostRuntime) {
     print(rt, b"P7: a reader who arrives while a writer waits\n");
     let mut d = Detector::new();
-    d = play(rt, d, Event::MutexAttempt(4, 1, Outcome::Took));
-    d = play(rt, d, Event::RwReadAttempt(5, 7, Outcome::Took));
-    d = play(rt, d, Event::RwWriteAttempt(4, 7, Outcome::Blocked));
-    d = play(rt, d, Event::RwReadAttempt(3, 7, Outcome::Took));
-    d = play(rt, d, Event::MutexAttempt(3, 1, Outcome::Blocked));
-    totals(rt, d);
+    play(rt, &mut d, Event::MutexAttempt(4, 1, Outcome::Took));
+    play(rt, &mut d, Event::RwReadAttempt(5, 7, Outcome::Took));
+    play(rt, &mut d, Event::RwWriteAttempt(4, 7, Outcome::Blocked));
+    play(rt, &mut d, Event::RwReadAttempt(3, 7, Outcome::Took));
+    play(rt, &mut d, Event::MutexAttempt(3, 1, Outcome::Blocked));
+    totals(rt, &d);
 }
 
 // Session 8: a thread is woken and waits for the mutex; the end of its wait drops the edge.
 fn p8(rt: &HostRuntime) {
     print(rt, b"P8: a thread woken\n");
     let mut d = Detector::new();
-    d = play(rt, d, Event::MutexAttempt(1, 5, Outcome::Took));
-    d = play(rt, d, Event::CondvarWaitBegin(2, 0, 5));
-    d = play(rt, d, Event::CondvarNotifyOne(0));
-    totals(rt, d);
-    d = play(rt, d, Event::CondvarWaitEnd(2, 0, 5));
-    totals(rt, d);
+    play(rt, &mut d, Event::MutexAttempt(1, 5, Outcome::Took));
+    play(rt, &mut d, Event::CondvarWaitBegin(2, 0, 5));
+    play(rt, &mut d, Event::CondvarNotifyOne(0));
+    totals(rt, &d);
+    play(rt, &mut d, Event::CondvarWaitEnd(2, 0, 5));
+    totals(rt, &d);
 }
 
 // Session 9: a blocked write of a lock that nobody has leaves no intent.
 fn p9(rt: &HostRuntime) {
     print(rt, b"P9: a write of a free lock\n");
     let mut d = Detector::new();
-    d = play(rt, d, Event::RwWriteAttempt(4, 7, Outcome::Blocked));
-    totals(rt, d);
+    play(rt, &mut d, Event::RwWriteAttempt(4, 7, Outcome::Blocked));
+    totals(rt, &d);
 }
 
 // Session 10: the highest numbers are accepted, and the next ones are refused.
 fn p10(rt: &HostRuntime) {
     print(rt, b"P10: the last numbers, and the first outside\n");
     let mut d = Detector::new();
-    d = play(rt, d, Event::CondvarWaitBegin(31, 15, 63));
-    d = play(rt, d, Event::MutexAcquired(32, 63));
-    d = play(rt, d, Event::MutexAcquired(31, 64));
-    d = play(rt, d, Event::CondvarSpawn(16));
-    d = play(rt, d, Event::MutexAcquired(32, 64));
-    d = play(rt, d, Event::MutexAttempt(1, 64, Outcome::Hinted(32)));
-    d = play(rt, d, Event::CondvarWaitBegin(1, 16, 64));
-    totals(rt, d);
+    play(rt, &mut d, Event::CondvarWaitBegin(31, 15, 63));
+    play(rt, &mut d, Event::MutexAcquired(32, 63));
+    play(rt, &mut d, Event::MutexAcquired(31, 64));
+    play(rt, &mut d, Event::CondvarSpawn(16));
+    play(rt, &mut d, Event::MutexAcquired(32, 64));
+    play(rt, &mut d, Event::MutexAttempt(1, 64, Outcome::Hinted(32)));
+    play(rt, &mut d, Event::CondvarWaitBegin(1, 16, 64));
+    totals(rt, &d);
 }
 
 // Runs words about mutexes and rwlocks that sessions 1 to 10 leave out.
 fn ours_locks(rt: &HostRuntime) {
     print(rt, b"ours: wc, wr, mc, mr, md\n");
     let mut d = Detector::new();
-    d = play(rt, d, Event::RwWriteAcquired(2, 7));
-    d = play(rt, d, Event::RwWriteAttempt(4, 7, Outcome::Blocked));
-    totals(rt, d);
-    d = play(rt, d, Event::RwWriteReleased(2, 7));
-    totals(rt, d);
-    d = play(rt, d, Event::MutexAcquired(1, 5));
-    d = play(rt, d, Event::MutexAttempt(2, 5, Outcome::Blocked));
-    totals(rt, d);
-    d = play(rt, d, Event::MutexReleased(1, 5));
-    totals(rt, d);
-    d = play(rt, d, Event::MutexAcquired(3, 5));
-    totals(rt, d);
-    d = play(rt, d, Event::MutexExit(5));
-    totals(rt, d);
+    play(rt, &mut d, Event::RwWriteAcquired(2, 7));
+    play(rt, &mut d, Event::RwWriteAttempt(4, 7, Outcome::Blocked));
+    totals(rt, &d);
+    play(rt, &mut d, Event::RwWriteReleased(2, 7));
+    totals(rt, &d);
+    play(rt, &mut d, Event::MutexAcquired(1, 5));
+    play(rt, &mut d, Event::MutexAttempt(2, 5, Outcome::Blocked));
+    totals(rt, &d);
+    play(rt, &mut d, Event::MutexReleased(1, 5));
+    totals(rt, &d);
+    play(rt, &mut d, Event::MutexAcquired(3, 5));
+    totals(rt, &d);
+    play(rt, &mut d, Event::MutexExit(5));
+    totals(rt, &d);
 }
 
 // Runs words about reads and condvars that sessions 1 to 10 leave out.
 fn ours_condvars(rt: &HostRuntime) {
     print(rt, b"ours: rc, cn, cd, ca\n");
     let mut d = Detector::new();
-    d = play(rt, d, Event::RwReadAcquired(1, 5));
-    d = play(rt, d, Event::MutexAcquired(1, 5));
-    d = play(rt, d, Event::CondvarWaitBegin(2, 0, 5));
-    d = play(rt, d, Event::CondvarSpawn(0));
-    d = play(rt, d, Event::CondvarNotifyOne(0));
-    d = play(rt, d, Event::CondvarWaitBegin(2, 0, 5));
-    d = play(rt, d, Event::CondvarExit(0));
-    d = play(rt, d, Event::CondvarNotifyAll(0));
-    totals(rt, d);
-    d = play(rt, d, Event::CondvarWaitBegin(2, 0, 5));
-    d = play(rt, d, Event::CondvarWaitBegin(3, 0, 5));
-    d = play(rt, d, Event::CondvarNotifyAll(0));
-    totals(rt, d);
+    play(rt, &mut d, Event::RwReadAcquired(1, 5));
+    play(rt, &mut d, Event::MutexAcquired(1, 5));
+    play(rt, &mut d, Event::CondvarWaitBegin(2, 0, 5));
+    play(rt, &mut d, Event::CondvarSpawn(0));
+    play(rt, &mut d, Event::CondvarNotifyOne(0));
+    play(rt, &mut d, Event::CondvarWaitBegin(2, 0, 5));
+    play(rt, &mut d, Event::CondvarExit(0));
+    play(rt, &mut d, Event::CondvarNotifyAll(0));
+    totals(rt, &d);
+    play(rt, &mut d, Event::CondvarWaitBegin(2, 0, 5));
+    play(rt, &mut d, Event::CondvarWaitBegin(3, 0, 5));
+    play(rt, &mut d, Event::CondvarNotifyAll(0));
+    totals(rt, &d);
 }
 
 // Fills a queue: the 33rd pair is refused, and another queue still takes one.
 fn full_queue(rt: &HostRuntime) {
     print(rt, b"the 33rd cb\n");
-    let new = Detector::new();
-    let mut d = quietly(new, Event::CondvarWaitBegin(1, 0, 5), 32);
-    d = play(rt, d, Event::CondvarWaitBegin(1, 0, 5));
-    d = play(rt, d, Event::CondvarWaitBegin(1, 1, 5));
-    totals(rt, d);
+    let mut d = Detector::new();
+    quietly(&mut d, Event::CondvarWaitBegin(1, 0, 5), 32);
+    play(rt, &mut d, Event::CondvarWaitBegin(1, 0, 5));
+    play(rt, &mut d, Event::CondvarWaitBegin(1, 1, 5));
+    totals(rt, &d);
 }
 
 // Fills a reader count: each event that would count a 256th read is refused, and tries that do not count are served.
 fn full_count(rt: &HostRuntime) {
     print(rt, b"the 256th read\n");
-    let new = Detector::new();
-    let mut d = quietly(new, Event::RwReadAcquired(1, 5), 255);
-    d = play(rt, d, Event::RwReadAcquired(1, 5));
-    d = play(rt, d, Event::RwReadAttempt(1, 5, Outcome::Took));
-    d = play(rt, d, Event::RwReadTry(1, 5, Tried::Taken));
-    d = play(rt, d, Event::RwReadTry(1, 5, Tried::Missed));
-    d = play(rt, d, Event::RwReadAttempt(1, 5, Outcome::Blocked));
-    totals(rt, d);
+    let mut d = Detector::new();
+    quietly(&mut d, Event::RwReadAcquired(1, 5), 255);
+    play(rt, &mut d, Event::RwReadAcquired(1, 5));
+    play(rt, &mut d, Event::RwReadAttempt(1, 5, Outcome::Took));
+    play(rt, &mut d, Event::RwReadTry(1, 5, Tried::Taken));
+    play(rt, &mut d, Event::RwReadTry(1, 5, Tried::Missed));
+    play(rt, &mut d, Event::RwReadAttempt(1, 5, Outcome::Blocked));
+    totals(rt, &d);
 }
 
 // Lends a report buffer that is one byte too short: the event is refused, and the buffer stays as it was.
 fn short_buffer(rt: &HostRuntime) {
     print(rt, b"a buffer of 2,079 bytes\n");
-    let d = Detector::new();
+    let mut d = Detector::new();
     let mut small = [7u8; Detector::BUFFER_BYTES - 1];
-    let a = d.step(Event::MutexAcquired(1, 5), &mut small);
-    let reply = a.reply;
+    let reply = d.step(Event::MutexAcquired(1, 5), &mut small);
     show(rt, reply, &[0u8; Detector::BUFFER_BYTES]);
-    print_number(rt, wide(small[0]));
+    print_number(rt, usize::from(small[0]));
     print(rt, b"\n");
 }
 
@@ -286,9 +264,8 @@ fn short_buffer(rt: &HostRuntime) {
 fn hint(rt: &HostRuntime) {
     print(rt, b"a hint on a free lock records its owner\n");
     let mut d = Detector::new();
-    d = play(rt, d, Event::MutexAttempt(2, 5, Outcome::Hinted(1)));
-    let w = d.waits;
-    print_number(rt, wide(w.mutex_owners[5]));
+    play(rt, &mut d, Event::MutexAttempt(2, 5, Outcome::Hinted(1)));
+    print_number(rt, usize::from(d.waits.mutex_owners[5]));
     print(rt, b"\n");
 }
 
@@ -296,12 +273,10 @@ fn hint(rt: &HostRuntime) {
 fn lent(rt: &HostRuntime) {
     print(rt, b"a lent state with an owner of 33\n");
     let mut d = Detector::new();
-    let mut w = d.waits;
-    w.mutex_owners[0] = 33;
-    d.waits = w;
-    d = play(rt, d, Event::MutexAcquired(1, 5));
-    d = play(rt, d, Event::MutexAcquired(32, 5));
-    totals(rt, d);
+    d.waits.mutex_owners[0] = 33;
+    play(rt, &mut d, Event::MutexAcquired(1, 5));
+    play(rt, &mut d, Event::MutexAcquired(32, 5));
+    totals(rt, &d);
 }
 
 fn main(rt: HostRuntime) {

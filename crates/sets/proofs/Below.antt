@@ -7,6 +7,11 @@ use Prim.Native.Nat.{ℕ, zero, suc, ◌+◌, ◌/◌, ◌%◌, ◌<◌}
 use native.Mathlib.Omega.{arith}
 use native.Mathlib.Nat.{eq-or-lt_of_le}
 use lib.Dec.{eqb}
+use Rattle.std.specs.Prelude.{filter, map}
+use Rattle.std.specs.List.{list_all, range_with_len}
+use Rattle.std.proofs.lemmas.List.{map-id}
+use Rattle.std.proofs.lemmas.List.FromFn.{filter_of_map_range_with_len_more}
+use mathlib.Core.Bool.{◌&&◌}
 use Rattle.sets.specs.Sets.{bit, has, cons_if, upward_from, upward}
 use Rattle.sets.specs.Lists.{In}
 use Rattle.sets.specs.Below.{every, those, each}
@@ -118,3 +123,40 @@ each_next f x n = let e : suc n ≡ n + 1 = omega arith in ap (λ (m : ℕ). eac
 pub each_none : {A : Type 0} (f : A → ℕ → A) (x : A) → each f x 0 ≡ x
 unfolding each
 each_none f x = refl
+
+-- ---- `every` is the library's test of the numbers from 0 on
+
+and_true : (b : Bool) → (b && true) ≡ b
+and_true true = refl
+and_true false = refl
+
+and_cond : (a b c : Bool) → (a && cond b c false) ≡ cond (a && b) c false
+and_cond true b c = refl
+and_cond false b c = refl
+
+-- The last number is tested last.
+all_last : (f : ℕ → Bool) (a n : ℕ) → list_all f (range_with_len a (suc n)) ≡ cond (list_all f (range_with_len a n)) (f (a + n)) false
+all_last f a zero = and_true (f a) ∙ ap f (omega arith)
+all_last f a (suc n) =
+    ap (λ (b : Bool). f a && b) (all_last f (a + 1) n)
+    ∙ and_cond (f a) (list_all f (range_with_len (a + 1) n)) (f (a + 1 + n))
+    ∙ ap (λ (k : ℕ). cond (f a && list_all f (range_with_len (a + 1) n)) (f k) false) (omega arith)
+
+pub every_range : (f : ℕ → Bool) (n : ℕ) → list_all f (range_with_len 0 n) ≡ every f n
+unfolding every
+every_range f zero = refl
+every_range f (suc n) = all_last f 0 n ∙ ap₂ (λ (b : Bool) (k : ℕ). cond b (f k) false) (every_range f n) (omega arith)
+
+-- ---- `those` is the library's filter of the numbers from 0 on
+
+those_mapped : (f : ℕ → Bool) (n : ℕ) → filter f (map (λ (k : ℕ). k) (range_with_len 0 n)) ≡ those f n
+unfolding those
+those_mapped f zero = refl
+those_mapped f (suc n) =
+    let e : suc n ≡ n + 1 = omega arith in
+    ap (λ (m : ℕ). filter f (map (λ (k : ℕ). k) (range_with_len 0 m))) e
+    ∙ filter_of_map_range_with_len_more f (λ k. k) 0 n n (omega arith)
+    ∙ ap (λ (l : List ℕ). l ++ cond (f n) (n ∷ []) []) (those_mapped f n)
+
+pub those_range : (f : ℕ → Bool) (n : ℕ) → filter f (range_with_len 0 n) ≡ those f n
+those_range f n = ap (filter f) (sym (map-id (range_with_len 0 n))) ∙ those_mapped f n

@@ -9,6 +9,7 @@ use native.Mathlib.Omega.{arith}
 use lib.Pow.{pow_pos}
 use lib.Bits.{bit_and, and_step, and_self}
 use lib.Count.{count_trailing_zeros}
+use lib.ListN.{get_or, length}
 use Rattle.sets.specs.Sets.{bit, without, cons_if, upward_from, upward, lowest}
 use Rattle.sets.specs.Lists.{In}
 use Rattle.sets.proofs.Digits.{digit_cases, bit_below, without_old}
@@ -41,6 +42,15 @@ without_lowest (suc k) m p h =
     ⊎_elim
     (λ e. rw e (let s : (m - 1) / 2 ≡ m / 2 - 1 = omega arith in rw (s, without_lowest k (m / 2) (omega arith) (omega arith)) (omega arith)))
     (λ e. rw e (let s : (m - 1) / 2 ≡ m / 2 = omega arith in rw (s, and_self) (omega arith))) (digit_cases m)
+
+-- At a greater width the lowest number is the same.
+lowest_wide : (k j m : ℕ) → k ≤ j → 0 < m → m < 2 ^ k → lowest j m ≡ lowest k m
+unfolding count_trailing_zeros
+lowest_wide zero j m w p h = absurd (omega arith)
+lowest_wide (suc k) zero m w p h = absurd (omega arith)
+lowest_wide (suc k) (suc j) m w p h =
+    let q : m < 2 ^ k * 2 = rw pow-suc at h in
+    ⊎_elim (λ e. rw e (ap suc (lowest_wide k j (m / 2) (omega arith) (omega arith) (omega arith)))) (λ e. rw e refl) (digit_cases m)
 
 -- The mask gets smaller, so a walk ends.
 pub without_lowest_lt : (k m : ℕ) → 0 < m → m < 2 ^ k → without m (lowest k m) < m
@@ -86,6 +96,14 @@ step_from (suc k) i m p h =
 -- The lowest number comes first, and the numbers of the set without it follow.
 pub upward_step : (k m : ℕ) → 0 < m → m < 2 ^ k → upward k m ≡ lowest k m ∷ upward k (without m (lowest k m))
 upward_step k m p h = step_from k 0 m p h ∙ ap (λ (x : ℕ). x ∷ upward k (without m (lowest k m))) (omega arith)
+
+-- A step of the code's walk, which counts zeros at the width of 64, yields the first number and leaves the others.
+pub walk_step : (k m : ℕ) → k ≤ 64 → 0 < m → m < 2 ^ k → upward k m ≡ lowest 64 m ∷ upward k (bit_and m (m - 1))
+walk_step k m w p h = rw (lowest_wide k 64 m w p h, without_lowest k m p h) (upward_step k m p h)
+
+-- A step of the walk leaves a set of the same width.
+pub walk_lt : (k m : ℕ) → 0 < m → m < 2 ^ k → bit_and m (m - 1) < 2 ^ k
+walk_lt k m p h = rw (without_lowest k m p h) (omega (arith, without_lowest_lt k m p h))
 
 -- A fold over a set takes the lowest number first and goes on with the rest.
 pub fold_step : {B : Type 0} (f : B → ℕ → B) (b : B) (k m : ℕ) → 0 < m → m < 2 ^ k
@@ -133,6 +151,10 @@ bit_from (suc k) i m (suc y) h e =
 pub upward_lt : (k m x : ℕ) → In x (upward k m) → x < k
 upward_lt k m x h = let r = from_bit k 0 m x h in omega arith
 
+-- The first number listed is below k.
+pub first_lt : (k m x : ℕ) (l : List ℕ) → upward k m ≡ x ∷ l → x < k
+first_lt k m x l e = upward_lt k m x (rw e (inl refl))
+
 -- Every number listed is in the set.
 pub upward_bit : (k m x : ℕ) → In x (upward k m) → bit m x ≡ 1
 upward_bit k m x h = let z : x - 0 ≡ x = omega arith in rw z at (from_bit k 0 m x h).2
@@ -146,3 +168,13 @@ digit_upward k m x h e =
 -- If the set is below 2 ^ k, every number in it is listed.
 pub bit_upward : (k m x : ℕ) → m < 2 ^ k → bit m x ≡ 1 → In x (upward k m)
 bit_upward k m x h e = digit_upward k m x (bit_below k m x h e) e
+
+-- What stands at a place of a list stands in it.
+in_at : (l : List ℕ) (i d : ℕ) → i < length l → In (get_or l i d) l
+in_at [] i d h = absurd (omega arith)
+in_at (x ∷ l) zero d h = inl refl
+in_at (x ∷ l) (suc i) d h = inr (in_at l i d (omega arith))
+
+-- Each number of the walk is below k.
+pub upward_at_lt : (k m i d : ℕ) → i < length (upward k m) → get_or (upward k m) i d < k
+upward_at_lt k m i d h = upward_lt k m _ (in_at (upward k m) i d h)

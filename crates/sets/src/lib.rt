@@ -1,8 +1,11 @@
 // Sets of small numbers as masks: the number i is in a set when digit i of its mask is 1.
 #![tactic(auto)]
 
-pub mod locks;
-pub mod threads;
+mod set;
+mod upward;
+
+pub use set::Set;
+pub use upward::Upward;
 
 // The threads are numbered from 0 to 31.
 pub const THREADS: usize = 32;

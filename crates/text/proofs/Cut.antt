@@ -1,29 +1,30 @@
 -- A line cut into its fields.
-use mathlib.Core.Path.{◌≡◌, refl, sym, ap, ◌∙◌}
+use mathlib.Core.Path.{◌≡◌, refl, sym, ap, subst, ◌∙◌}
 use mathlib.Core.Bool.{Bool, true, false, cond, true≢false}
 use mathlib.Core.List.{List, [], ◌∷◌, ◌++◌}
 use Prim.Native.Nat.{ℕ, suc, ◌+◌, ◌<◌, ◌≤◌}
 use native.Mathlib.Omega.{arith}
-use native.Mathlib.Numerals.{add-one}
-use borrow.Author.Tests.{eq-eqb, ne_eqb}
-use lib.Dec.{eqb}
-use lib.ListN.{length, take, drop, get_or, length-drop}
-use lib.Seq.{drop-cons, take-length, drop-drop}
+use borrow.Author.Tests.{ltb-false}
+use lib.Dec.{eqb, ltb}
+use Rattle.std.specs.Prelude.{Option, Some, None, MatchOption}
+use Rattle.std.specs.List.{position, position_or_len}
+use Rattle.std.proofs.lemmas.List.Recursion.{is_position_or_len}
+use lib.ListN.{length, take, drop, length-drop}
+use lib.Seq.{take-length, drop-drop}
 use Rattle.text.specs.Decimal.{tabbed, joined}
 use Rattle.text.specs.Bytes.{tab}
 use Rattle.text.specs.Fields.{up_to, field_at, on_first, parts, fields}
 
 -- ---- What stands before a separator
 
--- If d stands at the place i, nothing is left before it.
-pub up_to_here : (d : ℕ) (l : List ℕ) (i : ℕ) → i < length l → get_or l i 0 ≡ d → up_to d (drop i l) ≡ []
+-- It is as long as the place of the first d, or as the text if there is none.
+first_or_len : (d : ℕ) (l : List ℕ) → length (up_to d l) ≡ position_or_len (λ b. eqb b d) l
 unfolding up_to
-up_to_here d l i h e = rw (drop-cons l i 0 h, eq-eqb _ _ e)
-
--- If another byte stands at the place i, it is one byte more.
-pub up_to_on : (d : ℕ) (l : List ℕ) (i : ℕ) → i < length l → (get_or l i 0 ≡ d → ⊥) → length (up_to d (drop i l)) ≡ 1 + length (up_to d (drop (i + 1) l))
-unfolding up_to
-up_to_on d l i h e = rw (drop-cons l i 0 h, ne_eqb _ _ e, add-one) (omega arith)
+first_or_len d l = is_position_or_len (λ x. length (up_to d x)) (λ b. eqb b d) refl (λ b bs. counted (eqb b d) b (up_to d bs)) l
+  where
+    counted : (t : Bool) (b : ℕ) (x : List ℕ) → length (cond t [] (b ∷ x)) ≡ cond t 0 (1 + length x)
+    counted true b x = refl
+    counted false b x = omega arith
 
 short : (t : Bool) (d b : ℕ) (bs : List ℕ) → length (up_to d bs) ≤ length bs → length (cond t [] (b ∷ up_to d bs)) ≤ suc (length bs)
 short true d b bs h = omega arith
@@ -34,6 +35,16 @@ pub up_to_short : (d : ℕ) (l : List ℕ) → length (up_to d l) ≤ length l
 unfolding up_to
 up_to_short d [] = omega arith
 up_to_short d (b ∷ bs) = short (eqb b d) d b bs (up_to_short d bs)
+
+found : (t : Bool) (k n : ℕ) → ltb k n ≡ t → k ≤ n → MatchOption (cond t (Some k) None) (k ≡ n) (λ m. (k ≡ m) × (m ≤ n))
+found true k n e h = (refl, h)
+found false k n e h = omega (arith, ltb-false k n e)
+
+-- The place of the first d is where it ends.
+pub up_to_found : (d : ℕ) (l : List ℕ) (r : Option ℕ) → r ≡ position (λ b. eqb b d) l → MatchOption r (length (up_to d l) ≡ length l) (λ n. (length (up_to d l) ≡ n) × (n ≤ length l))
+up_to_found d l r e =
+    let f : List ℕ → ℕ → Type 0 = λ x k. MatchOption (cond (ltb k (length x)) (Some k) None) (length (up_to d x) ≡ length x) (λ n. (length (up_to d x) ≡ n) × (n ≤ length x)) in
+    rw e (subst (f l) (first_or_len d l) (found _ (length (up_to d l)) (length l) refl (up_to_short d l)))
 
 taken : (t : Bool) (d b : ℕ) (bs : List ℕ) → take (length (up_to d bs)) bs ≡ up_to d bs → take (length (cond t [] (b ∷ up_to d bs))) (b ∷ bs) ≡ cond t [] (b ∷ up_to d bs)
 taken true d b bs h = refl

@@ -2,9 +2,10 @@
 use mathlib.Core.Path.{◌≡◌, refl, sym, ap, ◌∙◌}
 use mathlib.Core.Bool.{Bool, true, false, cond}
 use mathlib.Core.List.{List, [], ◌∷◌, ◌++◌, append-nil}
-use Prim.Native.Nat.{ℕ, zero, suc, ◌+◌, ◌-◌, ◌/◌, ◌%◌, ◌<◌, ◌≤◌, ◌^◌}
+use Prim.Native.Nat.{ℕ, zero, suc, ◌+◌, ◌-◌, ◌*◌, ◌/◌, ◌%◌, ◌<◌, ◌≤◌, ◌^◌}
 use native.Mathlib.Omega.{arith}
 use native.Mathlib.Nat.{pow-suc}
+use native.Mathlib.Numerals.{add-one}
 use borrow.Author.Tests.{ltb-true, ltb-false, lt-ltb, le-ltb}
 use lib.Dec.{ltb}
 use lib.ListN.{length, set, length-append}
@@ -55,42 +56,65 @@ decimal_short (suc k) n h = short_pick (ltb n 10) k n refl h (decimal_short k (n
 pub decimal_bound : (n : ℕ) → n < 2 ^ 64 → length (decimal n) ≤ 20
 decimal_bound n h = decimal_short 19 n (omega arith)
 
-some_pick : (t : Bool) (n : ℕ) → ltb n 10 ≡ t → 0 < length (decimal n)
-some_pick true n e = rw (decimal_one n (ltb-true n 10 e)) (omega arith)
-some_pick false n e = omega (arith, decimal_length n (ltb-false n 10 e))
-
--- Every number has a digit.
-pub decimal_some : (n : ℕ) → 0 < length (decimal n)
-decimal_some n = some_pick (ltb n 10) n refl
-
 -- ---- Digits put from the last to the first
 
--- States that the i digits of rest are still to be put, and that the digits of n after them stand in the buffer.
+-- Returns the last k digits of n, with zeros before them if it has fewer.
+abbrev pub low : ℕ → ℕ → List ℕ
+low zero n = []
+low (suc k) n = low k (n / 10) ++ (digit (n % 10) ∷ [])
+
+low_length : (k n : ℕ) → length (low k n) ≡ k
+low_length zero n = refl
+low_length (suc k) n = length-append (low k (n / 10)) (digit (n % 10) ∷ []) ∙ rw (low_length k (n / 10)) (omega arith)
+
+ten_pos : (k : ℕ) → 0 < 10 ^ k
+ten_pos zero = omega arith
+ten_pos (suc k) = omega (arith, pow-suc 10 k, ten_pos k)
+
+low_all : (k n : ℕ) → 10 ^ k ≤ n → n < 10 ^ suc k → low (suc k) n ≡ decimal n
+low_all zero n g h = ap (λ (d : ℕ). digit d ∷ []) (omega arith) ∙ sym (decimal_one n h)
+low_all (suc k) n g h =
+    ap (λ (x : List ℕ). x ++ (digit (n % 10) ∷ [])) (low_all k (n / 10) (omega (arith, pow-suc 10 k)) (omega (arith, pow-suc 10 (suc k))))
+    ∙ sym (decimal_more n (omega (arith, pow-suc 10 k, ten_pos k)))
+
+-- One digit more than the logarithm are all digits.
+module _ (n k : ℕ) (g : 10 ^ k ≤ n) (h : n < 10 * 10 ^ k) where
+  pub low_log : low (k + 1) n ≡ decimal n
+  low_log = rw add-one (low_all k n g (omega (arith, pow-suc 10 k)))
+
+  pub log_length : length (decimal n) ≡ k + 1
+  log_length = ap length (sym low_log) ∙ low_length (k + 1) n
+
+-- States that the digits of rest are still to be put from the place `at` up to i, and that the digits of n after them
+-- stand in the buffer.
 pub record Rest (n at i rest : ℕ) (d d' : List ℕ) : Type 0 where
-  pub last : List ℕ
-  pub whole : decimal n ≡ decimal rest ++ last
-  pub bytes : d' ≡ sets d (at + i) last
-  pub left : i ≡ length (decimal rest)
+  pub put : List ℕ
+  pub above : at ≤ i
+  pub whole : decimal n ≡ low (i - at) rest ++ put
+  pub bytes : d' ≡ sets d i put
 
 -- Before the first turn no digit stands in the buffer.
-pub rest_none : (n at i : ℕ) (d : List ℕ) → i ≡ length (decimal n) → Rest n at i n d d
-rest_none n at i d h = record { last = []; whole = sym (append-nil (decimal n)); bytes = refl; left = h }
+pub rest_none : (n at i k : ℕ) (d : List ℕ) → i ≡ at + k + 1 → low (k + 1) n ≡ decimal n → Rest n at i n d d
+rest_none n at i k d e h =
+    let j : i - at ≡ k + 1 = omega arith in
+    record { put = []; above = omega arith; whole = rw j (sym (append-nil (low (k + 1) n) ∙ h)); bytes = refl }
 
 -- A turn puts the last digit of rest and goes on with its tenth.
-pub rest_more : {n at i rest : ℕ} {d d' : List ℕ} (g : ℕ) → 10 ≤ rest → Rest n at i rest d d' → g ≡ digit (rest % 10) → Rest n at (i - 1) (rest / 10) d (set d' (at + (i - 1)) g)
-rest_more {n} {at} {i} {rest} {d} {d'} g h r e =
-    let k : i ≡ length (decimal (rest / 10)) + 1 = r.left ∙ decimal_length rest h in
-    let j : at + i ≡ suc (at + (i - 1)) = omega arith in
+pub rest_more : {n at i rest : ℕ} {d d' : List ℕ} → at < i → Rest n at i rest d d' → Rest n at (i - 1) (rest / 10) d (set d' (i - 1) (digit (rest % 10)))
+rest_more {n} {at} {i} {rest} {d} {d'} h r =
+    let j : i - at ≡ suc (i - 1 - at) = omega arith in
+    let k : i ≡ suc (i - 1) = omega arith in
     record {
-      last = g ∷ r.last;
-      whole = r.whole ∙ rw (decimal_more rest h, ← e) (append_snoc (decimal (rest / 10)) g r.last);
-      bytes = rw (r.bytes, j) (set_sets d (at + (i - 1)) (suc (at + (i - 1))) g r.last (omega arith));
-      left = omega arith;
+      put = digit (rest % 10) ∷ r.put;
+      above = omega arith;
+      whole = r.whole ∙ rw j (append_snoc (low (i - 1 - at) (rest / 10)) (digit (rest % 10)) r.put);
+      bytes = rw r.bytes (set_sets d (i - 1) i (digit (rest % 10)) r.put (omega arith)) ∙ ap (λ (m : ℕ). sets (set d (i - 1) (digit (rest % 10))) m r.put) k;
     }
 
--- The last turn puts the first digit, and then all digits stand.
-pub rest_last : {n at i rest : ℕ} {d d' : List ℕ} (g : ℕ) → rest < 10 → Rest n at i rest d d' → g ≡ digit rest → set d' at g ≡ sets d at (decimal n)
-rest_last {n} {at} {i} {rest} {d} {d'} g h r e =
-    let k : i ≡ 1 = r.left ∙ ap length (decimal_one rest h) in
-    let j : at + i ≡ suc at = omega arith in
-    rw (r.whole, decimal_one rest h, ← e, r.bytes, j) (set_sets d at (suc at) g r.last (omega arith))
+-- After the last turn all digits stand.
+pub rest_all : {n at i rest : ℕ} {d d' : List ℕ} → i ≤ at → Rest n at i rest d d' → d' ≡ sets d at (decimal n)
+rest_all {n} {at} {i} {rest} {d} {d'} h r =
+    let j : i - at ≡ 0 = omega arith in
+    let k : i ≡ at = omega arith in
+    let w : decimal n ≡ r.put = r.whole ∙ rw j in
+    r.bytes ∙ rw (k, w)

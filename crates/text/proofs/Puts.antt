@@ -1,12 +1,13 @@
 -- Texts put one after the other.
 use mathlib.Core.Path.{◌≡◌, refl, sym, ap, ◌∙◌}
 use mathlib.Core.List.{List, [], ◌∷◌, ◌++◌, append_assoc, append-nil}
-use Prim.Native.Nat.{ℕ, suc, ◌+◌, ◌<◌}
+use Prim.Native.Nat.{ℕ, suc, ◌+◌, ◌<◌, ◌≤◌}
 use native.Mathlib.Omega.{arith}
-use native.Mathlib.Numerals.{add-one}
 use native.Mathlib.Nat.{add-zero, add-suc, suc-add}
-use lib.ListN.{length, take, drop, get_or, set, length-append}
-use lib.Seq.{sets, sets-eq, length-sets, set_comm, take-suc, length-take-le}
+use lib.ListN.{length, take, drop, set, length-append}
+use borrow.Rule.Slice.PartMut.{put_mid}
+use lib.Seq.{sets, sets-eq, length-sets, set_comm, take-length}
+use Rattle.std.proofs.lemmas.Slice.{put_mid-paste}
 use Rattle.text.specs.Promises.{Room, Put, PutsCoincide}
 
 -- Two results of one call that both keep the promise are the same.
@@ -47,21 +48,15 @@ room_then {d} {d'} {s} {t} {at} {r} p h = record { fits = omega (arith, h.fits, 
 pub room_first : {d s : List ℕ} {at : ℕ} (t : List ℕ) → Room d at (s ++ t) → Room d at s
 room_first {d} {s} {at} t h = record { fits = omega (arith, h.fits, length-append s t) }
 
--- One turn of a loop that puts a text byte by byte.
-pub turn : (d : List ℕ) (at : ℕ) (s : List ℕ) (i : ℕ) → i < length s → (d' : List ℕ) → d' ≡ sets d at (take i s) → set d' (at + i) (get_or s i 0) ≡ sets d at (take (i + 1) s)
-turn d at s i h d' e =
-    let n : at + i ≡ at + length (take i s) = ap (λ (k : ℕ). at + k) (sym (length-take-le i s (omega arith))) in
-    rw (e, n, add-one, take-suc s i 0 h) (sets_append d at (take i s) (get_or s i 0 ∷ []))
+-- A part of the buffer that is replaced by a text is the text put there.
+pub put_mid_sets : (d : List ℕ) (at : ℕ) (s x : List ℕ) (k : ℕ) → at + length s ≤ length d → k ≡ length s → x ≡ s → put_mid at k d x ≡ sets d at s
+put_mid_sets d at s x k h e g = put_mid-paste at k d x s (length s) g (sym e) refl ∙ sym (rw take-length (sets-eq s d at h))
 
 -- States that a text w is put part by part and that rest is still to be put.
 pub record Done (w rest : List ℕ) (d : List ℕ) (at : ℕ) (d' : List ℕ) (r : ℕ) : Type 0 where
   pub done : List ℕ
   pub whole : w ≡ done ++ rest
   pub put : Put d at done d' r
-
--- At the start all of the text is still to be put.
-pub done_none : (w d : List ℕ) (at : ℕ) → Done w w d at d at
-done_none w d at = record { done = []; whole = refl; put = record { bytes = refl; place = omega arith } }
 
 -- Putting the next part leaves what comes after it.
 pub done_more : {w part rest rest' d d' d'' : List ℕ} {at r r' : ℕ} → Done w rest d at d' r → rest ≡ part ++ rest' → Put d' r part d'' r' → Done w rest' d at d'' r'

@@ -11,15 +11,7 @@ pub fn keep(carry: &mut [u8], have: usize, part: &[u8]) -> usize
     requires { (length carry.old ≡ carry_bytes) × (have ≤ carry_bytes) }
     ensures { (result ≤ carry_bytes) × (take result carry.new ≡ take carry_bytes (take have carry.old ++ part.now)) }
 {
-    let mut h = have;
-    let mut i = 0;
-    while i < part.len() {
-        if h == CARRY_BYTES {
-            return h;
-        }
-        carry[h] = part[i];
-        h = h + 1;
-        i = i + 1;
-    }
-    h
+    let n = (CARRY_BYTES - have).min(part.len());
+    carry[have..have + n].copy_from_slice(&part[..n]);
+    have + n
 }

@@ -16,10 +16,7 @@ pub fn put_bytes(out: &mut [u8], at: usize, s: &[u8]) -> usize
     requires { Room out.old at s.now }
     ensures { Put out.old at s.now out.new result }
 {
-    let mut i = 0;
-    while i < s.len() {
-        out[at + i] = s[i];
-        i = i + 1;
-    }
-    at + i
+    let end = at + s.len();
+    out[at..end].copy_from_slice(s);
+    end
 }

@@ -46,13 +46,13 @@ module _ {e : Run} {k : List ℕ} where
       )
 
 pub feeds_coincide : FeedsCoincide
-feeds_coincide r c chunk from d at t u k l e f p q n =
+feeds_coincide r c chunk from d at r' s' t u k l e f p q n =
     let part : between from t.next chunk ≡ between from u.next chunk = ap (λ (i : ℕ). between from i chunk) n in
     let same = puts_coincide d at _ e f t.at u.at p.text (subst (λ (x : List ℕ). Put d at (prints (mid_of r c) x) f u.at) (sym part) q.text) in
     (same.0, same.1, p.moves.after ∙ ap (fed (mid_of r c)) part ∙ sym q.moves.after)
 
 pub calls_move : FeedsMove
-calls_move r c chunk from d at t k e f h n w = feeds_move f h n w
+calls_move r c chunk from d at r' t k e f h n w = feeds_move f h n w
 
 begun_mid : {r : Run} (c : List ℕ) → Begins r → mid_of r c ≡ start
 begun_mid {r} c b = ap₂ (λ (n : ℕ) (u : replay.Run). mid (take n c) u) b.have b.run

@@ -55,20 +55,20 @@ module _ {r : code.Run} {carry chunk : List ℕ} {from : ℕ} {out : List ℕ} {
         short = omega (arith, g.up, h.up, g.short, h.short);
       }
 
-  pub goes_done : to ≤ length out → (i < length chunk → s.lines < limit → length out < to + answer_bytes) → Feeds r carry chunk from out at (record { run = s; next = i; at = to }) carry' out'
+  pub goes_done : to ≤ length out → (i < length chunk → s.lines < limit → length out < to + answer_bytes) → Feeds r carry chunk from out at s (record { next = i; at = to }) carry' out'
   goes_done w h = record { moves = g.moves; text = g.text; place = w; short = g.short; stops = h }
 
 -- A call with bytes, a line and room left takes at least one byte.
-pub feeds_move : {r : code.Run} {carry chunk : List ℕ} {from : ℕ} {out : List ℕ} {at : ℕ} {t : Turned} {carry' out' : List ℕ} → Feeds r carry chunk from out at t carry' out'
+pub feeds_move : {r : code.Run} {carry chunk : List ℕ} {from : ℕ} {out : List ℕ} {at : ℕ} {r' : code.Run} {t : Turned} {carry' out' : List ℕ} → Feeds r carry chunk from out at r' t carry' out'
     → from < length chunk → r.lines < limit → at + answer_bytes ≤ length out → from < t.next
 unfolding fed prints
-feeds_move {r} {carry} {chunk} {from} {out} {at} {t} {carry'} {out'} f h k w = go (ℕ_discrete from t.next)
+feeds_move {r} {carry} {chunk} {from} {out} {at} {r'} {t} {carry'} {out'} f h k w = go (ℕ_discrete from t.next)
   where
     go : Dec (from ≡ t.next) → from < t.next
     go (no n) = omega (arith, n, f.moves.onward)
     go (yes e) =
         let cut : between from t.next chunk ≡ [] = ap (λ (j : ℕ). between from j chunk) (sym e) ∙ slice_empty from chunk in
-        let same : t.run.lines ≡ r.lines = ap (λ (m : Mid). m.run.lines) (f.moves.after ∙ ap (fed (mid_of r carry)) cut) in
+        let same : r'.lines ≡ r.lines = ap (λ (m : Mid). m.run.lines) (f.moves.after ∙ ap (fed (mid_of r carry)) cut) in
         let here : t.at ≡ at + length (prints (mid_of r carry) []) = f.text.place ∙ ap (λ (z : List ℕ). at + length (prints (mid_of r carry) z)) cut in
         absurd (omega (arith, f.stops (omega arith) (omega arith), here))
 

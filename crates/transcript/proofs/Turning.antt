@@ -13,15 +13,13 @@ use Rattle.script.specs.Lines.{line_of}
 use Rattle.text.proofs.Cut.{take_up_to}
 use Rattle.detector.specs.Tables.{Tables}
 use Rattle.detector.specs.declared.state.Detector.{Detector}
-use Rattle.detector.specs.declared.reply.Stepped.{Stepped}
 use Rattle.text.specs.Promises.{Room, Put}
 use Rattle.answers.specs.Answers.{reply_text, cycles_text, answer_text, answer_bytes}
 use Rattle.answers.specs.Promises.{ReportsInside}
 use Rattle.answers.proofs.Bounds.{Bytes, answer_room, answer_bound}
 use Rattle.waits.specs.Report.{Entry}
 use Rattle.detector.specs.State.{tables, Valid}
-use Rattle.detector.specs.Promises.{reports_of}
-use Rattle.detector.specs.declared.reply.Reply.{Reply}
+use Rattle.detector.specs.Numbered.{Reply, reports_of}
 use Rattle.text.specs.Bytes.{line_feed}
 use Rattle.detector.specs.Refusals.{buffer_bytes}
 use Rattle.transcript.specs.Replay.{Run, Result, limit, line_result, result_of, result_text, after, line_text}
@@ -30,7 +28,8 @@ use Rattle.transcript.specs.Chunks.{Mid, mid, step, prints_byte, fed, prints}
 use Rattle.transcript.specs.Code.{run_of, mid_of, between}
 use Rattle.transcript.specs.Promises.{IsRun, Moves}
 use Rattle.transcript.specs.declared.run.Run as code
-use Rattle.script.specs.declared.line.Line.{Line}
+use Rattle.std.specs.Prelude.{Option}
+use Rattle.detector.specs.declared.event.Event.{Event}
 use Rattle.transcript.proofs.Answering.{Results}
 use Rattle.transcript.proofs.Text.{fed_append, prints_append, cut_result, cut_more}
 
@@ -155,20 +154,20 @@ module _ (have : ℕ) (carry : List ℕ) (r : Run) (small : have ≤ carry_bytes
 
 -- ---- The answer to the line
 
-effect_result : (n : ℕ) (y : Stepped) (b : List ℕ) (a : Result) → Results y b a → answer_text n y.reply b ≡ result_text n a
+effect_result : (n : ℕ) (f : Detector) (y : Reply) (b : List ℕ) (a : Result) → Results f y b a → answer_text n y b ≡ result_text n a
 unfolding answer_text
-effect_result n y b a h = ap₂ (λ (q : Reply) (c : List (List Entry)). reply_text n q ++ cycles_text c) h.reply h.cycles
+effect_result n f y b a h = ap₂ (λ (q : Reply) (c : List (List Entry)). reply_text n q ++ cycles_text c) h.reply h.cycles
 
 -- There is room for the answer, and what is put is the text of the result.
-module _ (n : ℕ) (a : Stepped) (b : List ℕ) (q : Result) (small : n < 2 ^ 64) (bytes : Bytes b) (s : Results a b q) (out : List ℕ) (at : ℕ) where
-  pub answered_room : length b ≡ buffer_bytes → at + answer_bytes ≤ length out → ReportsInside (reports_of a.reply) b × Room out at (answer_text n a.reply b)
-  answered_room h w = (omega (arith, s.held), answer_room out at n a.reply b small (omega (arith, s.small)) bytes s.few s.held w)
+module _ (n : ℕ) (f : Detector) (a : Reply) (b : List ℕ) (q : Result) (small : n < 2 ^ 64) (bytes : Bytes b) (s : Results f a b q) (out : List ℕ) (at : ℕ) where
+  pub answered_room : length b ≡ buffer_bytes → at + answer_bytes ≤ length out → ReportsInside (reports_of a) b × Room out at (answer_text n a b)
+  answered_room h w = (omega (arith, s.held), answer_room out at n a b small (omega (arith, s.small)) bytes s.few s.held w)
 
-  pub answered_line : (out' : List ℕ) (to : ℕ) → Put out at (answer_text n a.reply b) out' to
-      → Valid a.detector × (tables a.detector ≡ q.tables) × Put out at (result_text n q) out' to × (to ≤ at + answer_bytes)
+  pub answered_line : (out' : List ℕ) (to : ℕ) → Put out at (answer_text n a b) out' to
+      → Valid f × (tables f ≡ q.tables) × Put out at (result_text n q) out' to × (to ≤ at + answer_bytes)
   answered_line out' to p =
-      let w = answer_bound n a.reply b small (omega (arith, s.small)) bytes s.few s.held in
-      (s.valid, s.state, subst (λ (t : List ℕ). Put out at t out' to) (effect_result n a b q s) p, omega (arith, p.place, w))
+      let w = answer_bound n a b small (omega (arith, s.small)) bytes s.few s.held in
+      (s.valid, s.state, subst (λ (t : List ℕ). Put out at t out' to) (effect_result n f a b q s) p, omega (arith, p.place, w))
 
 pub after_line : (r : Run) (l : List ℕ) (x : Tables) (n : ℕ) → n ≡ r.lines + 1 → x ≡ (line_result r.tables (line_of l)).tables → mid [] (record { lines = n; tables = x }) ≡ mid [] (after r l)
 unfolding after result_of
@@ -208,7 +207,7 @@ carried_turn r carry carry' chunk out from e at h k n i f q w p =
     }
 
 -- In this turn the line ends in the chunk.
-pub line_turn : (r : code.Run) (carry carry' chunk out out' : List ℕ) (from e at to : ℕ) (d : Detector) (l : Line) → IsRun r carry → r.lines < limit → from < length chunk
+pub line_turn : (r : code.Run) (carry carry' chunk out out' : List ℕ) (from e at to : ℕ) (d : Detector) (l : Option Event) → IsRun r carry → r.lines < limit → from < length chunk
     → (e ≡ from + length (up_to line_feed (drop from chunk))) × (e ≤ length chunk) → (e ≡ length chunk → ⊥) → length carry' ≡ length carry
     → l ≡ line_of (take r.have carry ++ take (e - from) (drop from chunk))
     → Valid d × (tables d ≡ (line_result (tables r.detector) l).tables) × Put out at (result_text (r.lines + 1) (line_result (tables r.detector) l)) out' to × (to ≤ at + answer_bytes)
@@ -223,11 +222,11 @@ line_turn r carry carry' chunk out out' from e at to d l k n i f q w c p =
         kept = record { valid = p.0; lines = omega arith; have = omega arith; long = w ∙ k.long };
         onward = omega (arith, f.0);
         inside = omega arith;
-        after = after_line (run_of r) line (tables d) (r.lines + 1) refl (p.1 ∙ ap (λ (z : Line). (line_result (tables r.detector) z).tables) u)
+        after = after_line (run_of r) line (tables d) (r.lines + 1) refl (p.1 ∙ ap (λ (z : Option Event). (line_result (tables r.detector) z).tables) u)
             ∙ sym (line_fed r.have carry (run_of r) k.have n chunk from e j f.0 b);
       };
       text = subst (λ (z : List ℕ). Put out at z out' to)
-          (ap (λ (z : Line). result_text (r.lines + 1) (line_result (tables r.detector) z)) u ∙ text_line (run_of r) line (r.lines + 1) refl
+          (ap (λ (z : Option Event). result_text (r.lines + 1) (line_result (tables r.detector) z)) u ∙ text_line (run_of r) line (r.lines + 1) refl
           ∙ sym (line_prints r.have carry (run_of r) k.have n chunk from e j f.0 b))
           p.2;
       up = omega arith;

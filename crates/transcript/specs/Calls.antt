@@ -18,8 +18,8 @@ use Rattle.transcript.specs.declared.run.Turned.{Turned}
 -- be lent another chunk and another buffer.
 pub data Calls : Run → List ℕ → List (List ℕ) → List ℕ → Run → List ℕ → Type 0 where
   none : {r : Run} {c : List ℕ} → Calls r c [] [] r c
-  next : {r e : Run} {c k c' chunk d d' s : List ℕ} {from at : ℕ} {t : Turned} {ts : List (List ℕ)}
-      → Feeds r c chunk from d at t c' d' → Calls t.run c' ts s e k
+  next : {r r' e : Run} {c k c' chunk d d' s : List ℕ} {from at : ℕ} {t : Turned} {ts : List (List ℕ)}
+      → Feeds r c chunk from d at r' t c' d' → Calls r' c' ts s e k
       → Calls r c (between from t.next chunk ∷ ts) (between at t.at d' ++ s) e k
 
 -- States that two results of one call that stop at the same place are the same (`feeds_coincide`): in every
@@ -27,16 +27,16 @@ pub data Calls : Run → List ℕ → List (List ℕ) → List ℕ → Run → L
 -- whole text: `AllPrinted`.
 abbrev pub FeedsCoincide : Type 0
 FeedsCoincide =
-    (r : Run) (c chunk : List ℕ) (from : ℕ) (d : List ℕ) (at : ℕ) (t u : Turned) (k l e f : List ℕ)
-    → Feeds r c chunk from d at t k e → Feeds r c chunk from d at u l f → t.next ≡ u.next
-    → (e ≡ f) × (t.at ≡ u.at) × (mid_of t.run k ≡ mid_of u.run l)
+    (r : Run) (c chunk : List ℕ) (from : ℕ) (d : List ℕ) (at : ℕ) (r' s' : Run) (t u : Turned) (k l e f : List ℕ)
+    → Feeds r c chunk from d at r' t k e → Feeds r c chunk from d at s' u l f → t.next ≡ u.next
+    → (e ≡ f) × (t.at ≡ u.at) × (mid_of r' k ≡ mid_of s' l)
 
 -- States that a call with bytes left, a line that may still be read and room for the longest answer takes at
 -- least one byte (`calls_move`), so a text of n bytes is fed in at most n such calls.
 abbrev pub FeedsMove : Type 0
 FeedsMove =
-    (r : Run) (c chunk : List ℕ) (from : ℕ) (d : List ℕ) (at : ℕ) (t : Turned) (k e : List ℕ)
-    → Feeds r c chunk from d at t k e → from < length chunk → r.lines < limit → at + answer_bytes ≤ length d → from < t.next
+    (r : Run) (c chunk : List ℕ) (from : ℕ) (d : List ℕ) (at : ℕ) (r' : Run) (t : Turned) (k e : List ℕ)
+    → Feeds r c chunk from d at r' t k e → from < length chunk → r.lines < limit → at + answer_bytes ≤ length d → from < t.next
 
 -- A WHOLE TEXT: states that `begin`, calls of `feed_within` that take the parts ts, and then `finish_within`
 -- put the bytes `all`.

@@ -1,7 +1,12 @@
 -- What the calls promise, and what they ask.
-use Rattle.std.specs.Prelude.{◌≡◌, ◌⊎◌, List, ℕ, ◌+◌, ◌*◌, ◌-◌, ◌<◌, ◌≤◌, length}
-use Rattle.detector.specs.Refusals.{buffer_bytes}
-use Rattle.detector.specs.State.{Valid}
+use Rattle.std.specs.Prelude.{◌≡◌, ◌⊎◌, List, ℕ, ◌+◌, ◌*◌, ◌-◌, ◌<◌, ◌≤◌, length, Option, Some, None, Err}
+use Rattle.detector.specs.Refusals.{refusal, buffer_bytes}
+use Rattle.detector.specs.Numbered.{Reply}
+use Rattle.detector.specs.State.{tables, Valid}
+use Rattle.detector.specs.Promises.{Replies}
+use Rattle.detector.specs.declared.event.Event.{Event}
+use Rattle.detector.specs.declared.refused.Refusal.TheVariants.{Unreadable}
+use Rattle.detector.specs.declared.state.Detector.{Detector}
 use Rattle.text.specs.Lines.{carry_bytes}
 use Rattle.text.specs.Promises.{Put}
 use Rattle.answers.specs.Answers.{answer_bytes, end_bytes}
@@ -39,6 +44,12 @@ pub record EndAsks (r : Run) (carry : List ℕ) (out at : ℕ) : Type 0 where
   pub closed : (r.have ≡ 0) ⊎ (r.lines ≡ limit)
   pub place : at + end_bytes ≤ out
 
+-- States how a line is replied to, which reads as l: if it is no event, it is refused with 1, and the state and the
+-- report buffer are as they were; an event gets the reply of a step. The state is d before and f after.
+abbrev pub Replied : Detector → Option Event → Detector → Reply → List ℕ → List ℕ → Type 0
+Replied d None f r b e = (r ≡ Err Unreadable) × (f ≡ d) × (e ≡ b)
+Replied d (Some ev) f r b e = Replies (refusal (tables d) (length b) ev) d ev f r b e
+
 -- States that the bytes of the chunk from one place to another lead from the run r to the run r'.
 pub record Moves (r : Run) (carry chunk : List ℕ) (from to : ℕ) (r' : Run) (carry' : List ℕ) : Type 0 where
   pub kept : IsRun r' carry'
@@ -49,9 +60,9 @@ pub record Moves (r : Run) (carry chunk : List ℕ) (from to : ℕ) (r' : Run) (
 -- States what `feed_within` promises: the run after it and every byte put are those of the part of the chunk that it
 -- took. It goes on to the chunk's end, the limit of lines, or the place where the longest answer has no room, and no
 -- line prints more than the longest answer.
-pub record Feeds (r : Run) (carry chunk : List ℕ) (from : ℕ) (out : List ℕ) (at : ℕ) (t : Turned) (carry' out' : List ℕ) : Type 0 where
-  pub moves : Moves r carry chunk from t.next t.run carry'
+pub record Feeds (r : Run) (carry chunk : List ℕ) (from : ℕ) (out : List ℕ) (at : ℕ) (r' : Run) (t : Turned) (carry' out' : List ℕ) : Type 0 where
+  pub moves : Moves r carry chunk from t.next r' carry'
   pub text : Put out at (prints (mid_of r carry) (between from t.next chunk)) out' t.at
   pub place : t.at ≤ length out
-  pub short : t.at ≤ at + answer_bytes * (t.run.lines - r.lines)
-  pub stops : t.next < length chunk → t.run.lines < limit → length out < t.at + answer_bytes
+  pub short : t.at ≤ at + answer_bytes * (r'.lines - r.lines)
+  pub stops : t.next < length chunk → r'.lines < limit → length out < t.at + answer_bytes

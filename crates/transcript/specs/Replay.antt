@@ -1,16 +1,14 @@
 -- WHAT REPLAY PRINTS for a script: the answers to its lines, from the empty state and past refusals, up to line
 -- 1,000,000, and then the totals.
-use Rattle.std.specs.Prelude.{ℕ, ◌+◌, cond, List, [], ◌∷◌, ◌++◌, map, ltb}
+use Rattle.std.specs.Prelude.{ℕ, ◌+◌, cond, List, [], ◌∷◌, ◌++◌, map, ltb, Option, Some, None, Err}
 use Rattle.waits.specs.Report.{Entry, entries_of}
 use Rattle.detector.specs.Tables.{Tables, Effect, silent, empty}
 use Rattle.detector.specs.Stuck.{stuck_count, edge_count}
-use Rattle.detector.specs.declared.reply.Reply.{Reply}
-use Rattle.detector.specs.declared.reply.Reply.TheVariants.{Refused}
+use Rattle.detector.specs.Numbered.{Reply, numbered}
 use Rattle.detector.specs.Effects.{effect, replied}
 use Rattle.detector.specs.Refusals.{buffer_bytes}
 use Rattle.script.specs.Lines.{line_of, line_refusal}
-use Rattle.script.specs.declared.line.Line.{Line}
-use Rattle.script.specs.declared.line.Line.TheVariants as line
+use Rattle.detector.specs.declared.event.Event.{Event}
 use Rattle.answers.specs.Answers.{reply_text, cycles_text, end_text}
 use Rattle.text.specs.Lines.{lines_of}
 
@@ -32,9 +30,9 @@ replying y a = record { tables = a.tables; reply = y; cycles = map entries_of a.
 
 -- Returns the result of a line in tables x. An event has the effect and the reply that the rules give; a line
 -- that does not read is refused and changes nothing.
-abbrev pub line_result : Tables → Line → Result
-line_result x (line.Event e) = replying (replied x buffer_bytes e) (effect x buffer_bytes e)
-line_result x line.Unreadable = replying (Refused (line_refusal line.Unreadable)) (silent x)
+abbrev pub line_result : Tables → Option Event → Result
+line_result x (Some e) = replying (replied x buffer_bytes e) (effect x buffer_bytes e)
+line_result x None = replying (Err (numbered (line_refusal None))) (silent x)
 
 -- Returns the result of the line l in tables x.
 unfoldable pub result_of : Tables → List ℕ → Result

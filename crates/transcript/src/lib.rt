@@ -6,5 +6,4 @@ mod ending;
 mod lines;
 mod run;
 
-pub use ending::finish_within;
-pub use run::{LIMIT, Run, Turned, begin, feed_within};
+pub use run::{LIMIT, Run, Turned};

@@ -3,12 +3,13 @@ ghost use Rattle.std.specs.Prelude.{◌≡◌, ◌++◌, ◌≤◌, length, take
 ghost use Rattle.script.specs.Lines.{line_of};
 ghost use Rattle.text.specs.Lines.{carry_bytes};
 
-use script::{Line, read_line};
+use detector::Event;
+use script::read_line;
 use text::keep;
 
 // Returns what the line reads as that has `have` bytes in the carry and ends with this part of the chunk. The
 // part alone is read if nothing is carried; otherwise it is added to the carry, as far as there is room.
-pub(crate) fn line_of(carry: &mut [u8], have: usize, part: &[u8]) -> Line
+pub(crate) fn line_of(carry: &mut [u8], have: usize, part: &[u8]) -> Option<Event>
     requires { (length carry.old ≡ carry_bytes) × (have ≤ carry_bytes) }
     ensures { result ≡ line_of (take have carry.old ++ part.now) }
 {

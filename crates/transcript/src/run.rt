@@ -1,11 +1,13 @@
 // This module runs a script over a chunk, line by line.
-ghost use Rattle.std.specs.Prelude.{length};
-ghost use Rattle.transcript.specs.Promises.{Begins, FeedAsks, Feeds};
+ghost use Rattle.std.specs.Prelude.{◌≡◌, ◌++◌, length, take};
+ghost use Rattle.detector.specs.Refusals.{buffer_bytes};
+ghost use Rattle.script.specs.Lines.{line_of};
+ghost use Rattle.transcript.specs.Code.{with_detector};
+ghost use Rattle.transcript.specs.Promises.{Begins, IsRun, Replied, FeedAsks, Feeds};
 
 use crate::lines::line_of;
 use answers::{ANSWER_BYTES, put_answer};
-use detector::{Detector, Event, Reply};
-use script::Line;
+use detector::{Detector, Refusal};
 use text::{keep, up_to};
 
 // Lines after the one of this number are not read.
@@ -20,195 +22,68 @@ pub struct Run {
     pub have: usize,
 }
 
-// Returns the run before the first byte: the empty state, no line read and nothing carried.
-pub fn begin() -> Run
-    ensures { Begins result }
-{
-    let detector = Detector::new();
-    Run {
-        detector,
-        lines: 0,
-        have: 0,
-    }
-}
-
-// Holds what `feed_within` returns: the run after the part of the chunk that it took, the place in the chunk
-// where the next part starts, and the place after what it put.
-#[derive(Drop)]
+// Holds what `feed_within` returns: the place in the chunk where the next part starts, and the place after what it put.
+#[derive(Clone, Copy)]
 pub struct Turned {
-    pub run: Run,
     pub next: usize,
     pub at: usize,
 }
 
-// Puts an answer for each line of the chunk from `from` on, and carries a line that is not whole at its end.
-// Stops early at the limit of lines, or if `out` lacks room for the longest answer. The match on the event
-// stands in the loop because the state is too large to pass through one more call for each line.
-pub fn feed_within(
-    run: Run,
-    carry: &mut [u8],
-    chunk: &[u8],
-    from: usize,
-    out: &mut [u8],
-    at: usize,
-    buf: &mut [u8],
-) -> Turned
-    requires { FeedAsks run carry.old (length chunk.now) from (length out.old) at (length buf.old) }
-    ensures { Feeds run carry.old chunk.now from out.old at result carry.new out.new }
-{
-    let mut s = run.detector;
-    let mut n = run.lines;
-    let mut h = run.have;
-    let mut i = from;
-    let mut to = at;
-    while i < chunk.len() {
-        if n == LIMIT {
-            return Turned {
-                run: Run {
-                    detector: s,
-                    lines: n,
-                    have: h,
-                },
-                next: i,
-                at: to,
-            };
+impl Run {
+    // Returns the run before the first byte: the empty state, no line read and nothing carried.
+    pub fn begin() -> Run
+        ensures { Begins result }
+    {
+        Run {
+            detector: Detector::new(),
+            lines: 0,
+            have: 0,
         }
-        if out.len() - to < ANSWER_BYTES {
-            return Turned {
-                run: Run {
-                    detector: s,
-                    lines: n,
-                    have: h,
-                },
-                next: i,
-                at: to,
-            };
-        }
-        let end = up_to(chunk, b'\n', i);
-        if end == chunk.len() {
-            let k = keep(carry, h, &chunk[i..end]);
-            return Turned {
-                run: Run {
-                    detector: s,
-                    lines: n,
-                    have: k,
-                },
-                next: end,
-                at: to,
-            };
-        }
-        let line = line_of(carry, h, &chunk[i..end]);
-        let mut reply = Reply::Refused(1);
-        if let Line::Event(e) = line {
-            let k = s.refusal(e, buf.len());
-            reply = Reply::Refused(k);
-            if k == 0 {
-                match e {
-                    Event::MutexAttempt(t, l, o) => {
-                        let d = s.acquire_slow_with_recheck(t, l, o, buf);
-                        s = d.detector;
-                        reply = Reply::Reports(d.reports);
-                    }
-                    Event::MutexAcquired(t, l) => {
-                        let d = s.complete_acquire(t, l, buf);
-                        s = d.detector;
-                        reply = Reply::Reports(d.reports);
-                    }
-                    Event::MutexReleased(t, l) => {
-                        let d = s.release_mutex(t, l);
-                        s = d.detector;
-                        reply = Reply::Reports(d.reports);
-                    }
-                    Event::MutexExit(l) => {
-                        let d = s.destroy_mutex(l);
-                        s = d.detector;
-                        reply = Reply::Reports(d.reports);
-                    }
-                    Event::RwReadAttempt(t, l, o) => {
-                        let d = s.acquire_read_slow_with_recheck(t, l, o, buf);
-                        s = d.detector;
-                        reply = Reply::Reports(d.reports);
-                    }
-                    Event::RwReadAcquired(t, l) => {
-                        let d = s.complete_read(t, l);
-                        s = d.detector;
-                        reply = Reply::Reports(d.reports);
-                    }
-                    Event::RwReadTry(t, l, o) => {
-                        let d = s.try_read_nonblocking(t, l, o);
-                        s = d.detector;
-                        reply = Reply::Reports(d.reports);
-                    }
-                    Event::RwReadReleased(t, l) => {
-                        let d = s.release_read(t, l);
-                        s = d.detector;
-                        reply = Reply::Reports(d.reports);
-                    }
-                    Event::RwWriteAttempt(t, l, o) => {
-                        let d = s.acquire_write_slow_with_recheck(t, l, o, buf);
-                        s = d.detector;
-                        reply = Reply::Reports(d.reports);
-                    }
-                    Event::RwWriteAcquired(t, l) => {
-                        let d = s.complete_write(t, l, buf);
-                        s = d.detector;
-                        reply = Reply::Reports(d.reports);
-                    }
-                    Event::RwWriteReleased(t, l) => {
-                        let d = s.release_write(t, l);
-                        s = d.detector;
-                        reply = Reply::Reports(d.reports);
-                    }
-                    Event::RwExit(l) => {
-                        let d = s.destroy_rwlock(l);
-                        s = d.detector;
-                        reply = Reply::Reports(d.reports);
-                    }
-                    Event::CondvarSpawn(c) => {
-                        let d = s.create_condvar(c);
-                        s = d.detector;
-                        reply = Reply::Reports(d.reports);
-                    }
-                    Event::CondvarExit(c) => {
-                        let d = s.destroy_condvar(c);
-                        s = d.detector;
-                        reply = Reply::Reports(d.reports);
-                    }
-                    Event::CondvarWaitBegin(t, c, l) => {
-                        let d = s.begin_wait(t, c, l);
-                        s = d.detector;
-                        reply = Reply::Reports(d.reports);
-                    }
-                    Event::CondvarNotifyOne(c) => {
-                        let d = s.notify_one(c, buf);
-                        s = d.detector;
-                        reply = Reply::Reports(d.reports);
-                    }
-                    Event::CondvarNotifyAll(c) => {
-                        let d = s.notify_all(c, buf);
-                        s = d.detector;
-                        reply = Reply::Reports(d.reports);
-                    }
-                    Event::CondvarWaitEnd(t, c, l) => {
-                        let d = s.end_wait(t, c, l);
-                        s = d.detector;
-                        reply = Reply::Reports(d.reports);
-                    }
-                }
-            }
-        }
-        n = n + 1;
-        to = put_answer(out, to, n, reply, buf);
-        h = 0;
-        i = end + 1;
     }
-    Turned {
-        run: Run {
-            detector: s,
-            lines: n,
-            have: h,
-        },
-        next: i,
-        at: to,
+
+    // Replies to the line that ends with this part of the chunk: refuses it if it does not read as an event, or takes a
+    // step with its event.
+    fn reply(&mut self, carry: &mut [u8], part: &[u8], buf: &mut [u8]) -> Result<usize, Refusal>
+        requires { IsRun self.old carry.old }
+        ensures same { self.new ≡ with_detector self.old self.new.detector }
+        ensures reply { Replied self.old.detector (line_of (take self.old.have carry.old ++ part.now)) self.new.detector result buf.old buf.new }
+    {
+        let event = line_of(carry, self.have, part).ok_or(Refusal::Unreadable)?;
+        self.detector.step_within(event, buf)
+    }
+
+    // Puts an answer for each line of the chunk from `from` on, and carries a line that is not whole at its end.
+    // Stops early at the limit of lines, or if `out` lacks room for the longest answer.
+    pub fn feed_within(
+        &mut self,
+        carry: &mut [u8],
+        chunk: &[u8],
+        from: usize,
+        out: &mut [u8],
+        at: usize,
+        buf: &mut [u8],
+    ) -> Turned
+        requires { FeedAsks self.old carry.old (length chunk.now) from (length out.old) at (length buf.old) }
+        ensures { Feeds self.old carry.old chunk.now from out.old at self.new result carry.new out.new }
+    {
+        let mut next = from;
+        let mut to = at;
+        while next < chunk.len() {
+            if self.lines == LIMIT || out.len() - to < ANSWER_BYTES {
+                break;
+            }
+            let end = up_to(chunk, b'\n', next);
+            if end == chunk.len() {
+                self.have = keep(carry, self.have, &chunk[next..end]);
+                next = end;
+                break;
+            }
+            let reply = self.reply(carry, &chunk[next..end], buf);
+            self.lines += 1;
+            self.have = 0;
+            to = put_answer(out, to, self.lines, reply, buf);
+            next = end + 1;
+        }
+        Turned { next, at: to }
     }
 }

@@ -1,32 +1,25 @@
 -- The code reports what the rules report: the bytes of a report, and what becomes of a path.
-use mathlib.Core.Path.{◌≡◌, refl, sym, ap, ◌∙◌, subst}
+use mathlib.Core.Path.{◌≡◌, refl, sym, ap, ◌∙◌}
 use mathlib.Core.List.{List, [], ◌∷◌, ◌++◌, map, append-nil}
-use mathlib.Core.Bool.{Bool, true, false, cond}
-use mathlib.Core.Option.{Option, none, some}
-use Prim.Native.Nat.{ℕ, suc, ◌+◌, ◌*◌, ◌-◌, ◌<◌, ◌≤◌}
+use mathlib.Core.Bool.{true, false, cond}
+use Prim.Native.Nat.{ℕ, suc, ◌+◌, ◌*◌, ◌<◌, ◌≤◌}
 use native.Mathlib.Omega.{arith}
-use lib.ListN.{length, take, drop, get_or, set, replicate, length-map}
-use lib.Seq.{length-take-le, take-append_seam, sets, length-sets}
-use Rattle.sets.proofs.Walk.{upward_zero}
-use Rattle.graph.specs.Code.{sought_of, added, found_in, list_of}
-use Rattle.graph.specs.Promises.{Fit}
-use Rattle.graph.specs.declared.path.Path.{Path}
-use Rattle.graph.specs.declared.wait_for_graph.Added.{Added}
-use Rattle.graph.proofs.Fits.{found_in_lem}
-use Rattle.waits.specs.Tables.{intent_of, lock_of, waiters_of, with_graph, InRange}
-use Rattle.waits.specs.Waiting.{Linking, register, renew_all, refreshed, refresh, refresh_locks}
+use lib.ListN.{length, drop, get_or, set, length-map, drop_of_length-le}
+use lib.Seq.{sets, length-sets}
+use Rattle.std.specs.Prelude.{Option, None, Some}
+use Rattle.waits.specs.Tables.{intent_of, lock_of, waiters_of, with_graph}
+use Rattle.waits.specs.Waiting.{Linking, register, refreshed, renew_all, refresh, refresh_locks}
 use Rattle.waits.specs.Report.{Report, Judging, report, Entry, entry_of, entry_bytes, entries_text, bytes_of, written, quiet, reporting}
 use Rattle.waits.specs.Validate.{valid, awaited_locks, checked, validate}
 use Rattle.waits.specs.Attempt.{judge_found, judge, sieve_found, settle, block, block_mutex, mutex_on, read_on, write_on, free, block_write, block_for}
 use Rattle.waits.specs.Code.{linked, free_for, passes_for}
-use Rattle.waits.specs.Promises.{laid, Judges}
+use Rattle.waits.specs.Promises.{laid}
 use Rattle.waits.specs.declared.tables.Waits.{Waits}
-use Rattle.waits.specs.declared.tables.Linked.{Linked}
-use Rattle.waits.specs.declared.tables.Judged.{Judged}
 use Rattle.waits.specs.declared.intent.WaitIntent.{WaitIntent}
 use Rattle.waits.specs.declared.intent.WaitMode.{WaitMode}
 use Rattle.waits.specs.declared.intent.WaitMode.TheVariants.{Mutex, RwRead, RwWrite}
-use Rattle.waits.proofs.Masks.{next_of, done_of}
+use Rattle.sets.proofs.Walk.{upward_zero}
+use Rattle.waits.proofs.Masks.{next_of}
 
 -- ---- Bytes laid into a buffer
 
@@ -59,29 +52,29 @@ laid_one b at x l = ap (λ (k : ℕ). sets (set b at x) k l) (omega arith)
 unfoldable pub entered_by : Waits → List ℕ → List ℕ
 entered_by w p = entries_text (map (entry_of w) p)
 
-module _ (w : Waits) (ts : List ℕ) (n : ℕ) (b : n ≤ length ts) where
+module _ (w : Waits) (p : List ℕ) where
   -- One turn of the loop writes one entry.
-  pub entry_step : (buf : List ℕ) (at i : ℕ) → i < n
-      → laid (set (set buf at (get_or ts i 0)) (at + 1) (lock_of (intent_of w (get_or ts i 0)))) (at + entry_bytes) (entered_by w (drop (i + 1) (take n ts)))
-      ≡ laid buf at (entered_by w (drop i (take n ts)))
+  pub entry_step : (buf : List ℕ) (at i : ℕ) → i < length p
+      → laid (set (set buf at (get_or p i 0)) (at + 1) (lock_of (intent_of w (get_or p i 0)))) (at + entry_bytes) (entered_by w (drop (i + 1) p))
+      ≡ laid buf at (entered_by w (drop i p))
   unfolding entered_by entries_text
   entry_step buf at i h =
       let e : at + 2 ≡ at + 1 + 1 = omega arith in
       rw e
-      (sym (ap (λ (l : List ℕ). laid buf at (entered_by w l)) (next_of ts n i h b)
-      ∙ laid_one buf at (get_or ts i 0) _
-      ∙ laid_one (set buf at (get_or ts i 0)) (at + 1) (lock_of (intent_of w (get_or ts i 0))) (entered_by w (drop (i + 1) (take n ts)))))
+      (sym (ap (λ (l : List ℕ). laid buf at (entered_by w l)) (next_of p i h)
+      ∙ laid_one buf at (get_or p i 0) _
+      ∙ laid_one (set buf at (get_or p i 0)) (at + 1) (lock_of (intent_of w (get_or p i 0))) (entered_by w (drop (i + 1) p))))
 
   -- After the last entry nothing more is written.
-  pub entry_end : (buf : List ℕ) (at i : ℕ) → n ≤ i → buf ≡ laid buf at (entered_by w (drop i (take n ts)))
+  pub entry_end : (buf : List ℕ) (at i : ℕ) → length p ≤ i → buf ≡ laid buf at (entered_by w (drop i p))
   unfolding entered_by entries_text
-  entry_end buf at i h = rw (done_of ts n i h b) (sym (laid_none buf at))
+  entry_end buf at i h = rw (drop_of_length-le p {i = i} h) (sym (laid_none buf at))
 
   -- The number of entries, and then the entries, are the report.
-  pub report_head : (buf : List ℕ) (from : ℕ) → laid (set buf from n) (from + 1) (entered_by w (take n ts)) ≡ laid buf from (bytes_of (report w (take n ts)))
+  pub report_head : (buf : List ℕ) (from : ℕ) → laid (set buf from (length p)) (from + 1) (entered_by w p) ≡ laid buf from (bytes_of (report w p))
   unfolding entered_by bytes_of
   report_head buf from =
-      ap (λ (k : ℕ). laid (set buf from k) (from + 1) (entered_by w (take n ts))) (sym (length-map (take n ts) (entry_of w) ∙ length-take-le n ts b)) ∙ sym (laid_one buf from _ _)
+      ap (λ (k : ℕ). laid (set buf from k) (from + 1) (entered_by w p)) (sym (length-map p (entry_of w))) ∙ sym (laid_one buf from _ _)
 
 -- The entries have entry_bytes each.
 pub length_entries : (es : List Entry) → length (entries_text es) ≡ entry_bytes * length es
@@ -94,50 +87,11 @@ pub length_bytes : (w : Waits) (p : List ℕ) → length (bytes_of (report w p))
 unfolding bytes_of
 length_bytes w p = omega (arith, length_entries (map (entry_of w) p), length-map p (entry_of w))
 
-written_one : (r : Report) → written (r ∷ []) ≡ bytes_of r
+pub written_one : (r : Report) → written (r ∷ []) ≡ bytes_of r
 unfolding written
 written_one r = append-nil (bytes_of r)
 
--- ---- One report, or none
-
--- Writing a report keeps the promise.
-pub report_judges : (w : Waits) (p : Path) (used from : ℕ) (b e : List ℕ) → InRange w → Fit p
-    → (e ≡ laid b from (bytes_of (report w (list_of p)))) → (used ≡ from + 1 + entry_bytes * p.len)
-    → Judges (record { waits = w; reports = 1; used = used }) b e from (reporting w (list_of p))
-report_judges w p used from b e s f x y =
-    let n : length (take p.len p.threads) ≡ p.len = length-take-le p.len p.threads f.cells in
-    record {
-      waits = refl;
-      count = refl;
-      bytes = rw (written_one (report w (list_of p))) x;
-      used = rw (written_one (report w (list_of p))) (omega (arith, length_bytes w (list_of p)));
-      room = omega (arith, f.long);
-      few = omega arith;
-      in_range = s;
-    }
-
--- A call that writes nothing keeps the promise of no report.
-pub quiet_judges : (w : Waits) (from : ℕ) (b : List ℕ) → InRange w → Judges (record { waits = w; reports = 0; used = from }) b b from (quiet w)
-unfolding written
-quiet_judges w from b s =
-    record { waits = refl; count = refl; bytes = sym (laid_none b from); used = omega arith; room = omega arith; few = omega arith; in_range = s }
-
--- The promise of one result is the promise of an equal one.
-pub retell : {r : Judged} {b e : List ℕ} {from : ℕ} {a z : Judging} → a ≡ z → Judges r b e from a → Judges r b e from z
-retell {r} {b} {e} {from} q t = subst (Judges r b e from) q t
-
--- The same of any result that equals the tables with no report.
-pub hush_judges : (r : Judged) (w : Waits) (from : ℕ) (b : List ℕ) → r ≡ record { waits = w; reports = 0; used = from } → InRange w → Judges r b b from (quiet w)
-hush_judges r w from b e s = subst (λ (x : Judged). Judges x b b from (quiet w)) (sym e) (quiet_judges w from b s)
-
 -- ---- A path is judged
-
--- A record of no path has an empty path, which is never valid.
-checked_of : (c : List ℕ) (w : Waits) (o : Option (List ℕ))
-    → cond (valid c w (list_of (sought_of o).path)) (reporting w (list_of (sought_of o).path)) (quiet w) ≡ checked c w o
-unfolding checked valid
-checked_of c w none = refl
-checked_of c w (some p) = rw (take-append_seam p (replicate (32 - length p) 0))
 
 module _ (c : List ℕ) (w : Waits) (p : List ℕ) where
   -- If the path is valid, it is reported.
@@ -145,70 +99,57 @@ module _ (c : List ℕ) (w : Waits) (p : List ℕ) where
   unfolding validate
   first_reports e = rw e
 
-  module _ (f : valid c w p ≡ false) where
+  module _ (f : valid c w p ≡ false) (v : Waits) (o : Option (List ℕ)) (e : linked v o ≡ refresh_locks c w (awaited_locks w p)) where
     -- If not, the path that the refreshes found decides.
-    again : (b : Bool) → (let r = refresh_locks c w (awaited_locks w p) in valid c r.waits (list_of (sought_of r.found).path) ≡ b
-        → cond b (reporting r.waits (list_of (sought_of r.found).path)) (quiet r.waits) ≡ validate c w p)
+    again : checked c v o ≡ validate c w p
     unfolding validate
-    again b g =
-        let r = refresh_locks c w (awaited_locks w p) in
-        ap (λ x. cond x (reporting r.waits (list_of (sought_of r.found).path)) (quiet r.waits)) (sym g) ∙ checked_of c r.waits r.found ∙ rw f
+    again = ap (λ (s : Linking). checked c s.waits s.found) e ∙ rw f
 
-    -- If that is valid, it is reported; if not, nothing is.
-    pub second_reports : (k : Linked) → k ≡ linked (refresh_locks c w (awaited_locks w p)) → valid c k.waits (list_of k.sought.path) ≡ true
-        → reporting k.waits (list_of k.sought.path) ≡ validate c w p
-    second_reports k e = subst (λ (k : Linked). valid c k.waits (list_of k.sought.path) ≡ true → reporting k.waits (list_of k.sought.path) ≡ validate c w p) (sym e) (again true)
+    -- If there is one and it is valid, it is reported; if not, nothing is.
+    pub second_none : o ≡ None → quiet v ≡ validate c w p
+    unfolding checked
+    second_none n = (rw n at again)
 
-    pub second_quiet : (k : Linked) → k ≡ linked (refresh_locks c w (awaited_locks w p)) → valid c k.waits (list_of k.sought.path) ≡ false
-        → quiet k.waits ≡ validate c w p
-    second_quiet k e = subst (λ (k : Linked). valid c k.waits (list_of k.sought.path) ≡ false → quiet k.waits ≡ validate c w p) (sym e) (again false)
+    pub second_reports : (q : List ℕ) → o ≡ Some q → valid c v q ≡ true → reporting v q ≡ validate c w p
+    unfolding checked
+    second_reports q n t = (rw (n, t) at again)
 
--- What is done with the code's record of registering or refreshing is done with what it stands for.
-pub found_linked : (F : Waits → Option (List ℕ) → Judging) (s : Linking) (k : Linked) → k ≡ linked s → F k.waits (found_in k.sought) ≡ F s.waits s.found
-found_linked F s k e = ap (λ (k : Linked). F k.waits (found_in k.sought)) e ∙ ap (F s.waits) (found_in_lem s.found)
+    pub second_quiet : (q : List ℕ) → o ≡ Some q → valid c v q ≡ false → quiet v ≡ validate c w p
+    unfolding checked
+    second_quiet q n t = (rw (n, t) at again)
+
+-- ---- An attempt, which is one for all modes
 
 -- A refresh changes no table but the graph.
-pub refresh_linked : (c : List ℕ) (w : Waits) (l : ℕ) (k : Added) → k ≡ added (refreshed c w l)
-    → ◌≡◌ {A = Linked} (record { waits = with_graph w k.graph; sought = k.sought }) (linked (refresh c w l))
+pub refresh_linked : (c : List ℕ) (w : Waits) (l : ℕ) → refresh c w l ≡ linked (with_graph w (refreshed c w l).graph) (refreshed c w l).found
 unfolding refresh
-refresh_linked c w l k e = ap (λ (k : Added). record { waits = with_graph w k.graph; sought = k.sought }) e
+refresh_linked c w l = refl
 
-pub refresh_graph : (c : List ℕ) (w : Waits) (l : ℕ) (k : Added) → k ≡ added (refreshed c w l) → with_graph w k.graph ≡ (refresh c w l).waits
-refresh_graph c w l k e = ap (λ (x : Linked). x.waits) (refresh_linked c w l k e)
-
--- Validating the path in the code's record of a refresh is `settle`.
-pub settle_added : (c : List ℕ) (w : Waits) (l : ℕ) (k : Added) → k ≡ added (refreshed c w l)
-    → judge_found c (with_graph w k.graph) (found_in k.sought) ≡ settle c w l
-unfolding settle
-settle_added c w l k e = found_linked (judge_found c) (refresh c w l) _ (refresh_linked c w l k e)
+pub refresh_graph : (c : List ℕ) (w : Waits) (l : ℕ) → with_graph w (refreshed c w l).graph ≡ (refresh c w l).waits
+refresh_graph c w l = sym (ap (λ (x : Linking). x.waits) (refresh_linked c w l))
 
 -- Returns the result for a path that is found, by the mode: filtered and validated, or only validated.
 abbrev pub sieved_for : WaitMode → List ℕ → Waits → Option (List ℕ) → Judging
-sieved_for m c w none = quiet w
-sieved_for m c w (some p) = cond (passes_for m c w p) (validate c w p) (quiet w)
+sieved_for m c w None = quiet w
+sieved_for m c w (Some p) = cond (passes_for m c w p) (validate c w p) (quiet w)
 
--- Returns the result of the code's `attempt`, which is one for all modes.
+-- Returns the result of the code's `attempt`.
 abbrev pub attempt_for : List ℕ → Waits → ℕ → WaitIntent → Judging
 attempt_for c w t i =
     cond (free_for i.mode c w i.lock_id) (quiet w) (let s = register c w t i in sieved_for i.mode c s.waits s.found)
 
 -- For each mode this is what the mode's rule does with a path.
 sieve_mutex : (c : List ℕ) (w : Waits) (o : Option (List ℕ)) → sieved_for Mutex c w o ≡ sieve_found c w o
-sieve_mutex c w none = refl
-sieve_mutex c w (some p) = refl
+sieve_mutex c w None = refl
+sieve_mutex c w (Some p) = refl
 
 judge_read : (c : List ℕ) (w : Waits) (o : Option (List ℕ)) → sieved_for RwRead c w o ≡ judge_found c w o
-judge_read c w none = refl
-judge_read c w (some p) = refl
+judge_read c w None = refl
+judge_read c w (Some p) = refl
 
 judge_write : (c : List ℕ) (w : Waits) (o : Option (List ℕ)) → sieved_for RwWrite c w o ≡ judge_found c w o
-judge_write c w none = refl
-judge_write c w (some p) = refl
-
--- The path in the code's record of registering gives the result of `attempt`.
-pub attempt_linked : (c : List ℕ) (w : Waits) (t : ℕ) (i : WaitIntent) (k : Linked) → k ≡ linked (register c w t i) → free_for i.mode c w i.lock_id ≡ false
-    → sieved_for i.mode c k.waits (found_in k.sought) ≡ attempt_for c w t i
-attempt_linked c w t i k e f = found_linked (sieved_for i.mode c) (register c w t i) k e ∙ rw f
+judge_write c w None = refl
+judge_write c w (Some p) = refl
 
 module _ (c : List ℕ) (w : Waits) (t l : ℕ) where
   -- The code's `attempt` is each mode's rule.
@@ -232,9 +173,28 @@ module _ (c : List ℕ) (w : Waits) (t l : ℕ) where
   pub attempt_free : (m : WaitMode) → free_for m c w l ≡ true → quiet w ≡ block_for m c w t l
   attempt_free m e = rw e at (attempt_for_lem m)
 
+  -- The path that registering found decides.
+  module _ (m : WaitMode) (f : free_for m c w l ≡ false) (v : Waits) (o : Option (List ℕ)) (e : linked v o ≡ register c w t (record { lock_id = l; mode = m })) where
+    sieved : sieved_for m c v o ≡ block_for m c w t l
+    sieved = ap (λ (s : Linking). sieved_for m c s.waits s.found) e ∙ rw f at (attempt_for_lem m)
+
+    pub attempt_none : o ≡ None → quiet v ≡ block_for m c w t l
+    attempt_none n = (rw n at sieved)
+
+    pub attempt_passes : (p : List ℕ) → o ≡ Some p → passes_for m c v p ≡ true → validate c v p ≡ block_for m c w t l
+    attempt_passes p n q = (rw (n, q) at sieved)
+
+    pub attempt_stops : (p : List ℕ) → o ≡ Some p → passes_for m c v p ≡ false → quiet v ≡ block_for m c w t l
+    attempt_stops p n q = (rw (n, q) at sieved)
+
+-- Validating the path that a refresh finds is `settle`.
+pub settles : (c : List ℕ) (w v : Waits) (o : Option (List ℕ)) (l : ℕ) → linked v o ≡ refresh c w l → judge_found c v o ≡ settle c w l
+unfolding settle
+settles c w v o l e = ap (judge c) e
+
 -- ---- Where a lock has no waiters, nothing is refreshed or reported
 
-pub refresh_idle : (c : List ℕ) (w : Waits) (l : ℕ) → waiters_of w l ≡ 0 → refresh c w l ≡ record { waits = w; found = none }
+pub refresh_idle : (c : List ℕ) (w : Waits) (l : ℕ) → waiters_of w l ≡ 0 → refresh c w l ≡ record { waits = w; found = None }
 unfolding refresh renew_all
 refresh_idle c w l e = rw (e, upward_zero 32 0)
 

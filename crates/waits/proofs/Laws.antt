@@ -1,45 +1,40 @@
 -- What the rules keep in range, and which threads the owners are.
-use mathlib.Core.Path.{◌≡◌, refl, sym, ap, ◌∙◌, subst}
+use mathlib.Core.Path.{◌≡◌, refl, sym, subst}
 use mathlib.Core.Logic.{⊎_elim}
 use mathlib.Core.List.{List, [], ◌∷◌, foldl}
 use mathlib.Core.Bool.{Bool, true, false, cond}
 use Prim.Native.Nat.{ℕ, zero, suc, ◌<◌, ◌≤◌}
 use lib.Dec.{lit<, lit≤}
 use lib.ListN.{get_or, set, replicate}
-use lib.Seq.{set-get_or}
 use Rattle.sets.specs.Sets.{upward}
 use Rattle.sets.specs.Lists.{In, among}
-use Rattle.sets.proofs.Walk.{upward_zero}
 use Rattle.sets.proofs.Lists.{in_either}
 use Rattle.sets.proofs.Below.{those_in}
 use Rattle.sets.proofs.Tables.{set_all}
-use Rattle.graph.specs.Search.{row}
-use Rattle.graph.specs.Graph.{one, cut_all, clear_wait_edges, Adding}
+use Rattle.graph.specs.Graph.{one, Adding}
 use Rattle.graph.specs.declared.wait_for_graph.WaitForGraph.{WaitForGraph}
 use Rattle.graph.proofs.Fits.{Fits, fits_none, fits_first, fits_owners, one_lt}
-use Rattle.waits.specs.Tables.{no_slot, intent_of, lock_of, waiters_of, writer_of, owner_of, with_graph, with_intents, own, write, empty, InRange}
+use Rattle.std.specs.Prelude.{Option, None, Some}
+use Rattle.waits.specs.Tables.{intent_of, lock_of, waiters_of, writer_of, owner_of, with_graph, with_intents, own, write, empty, InRange}
 use Rattle.waits.specs.Counts.{readers, reads}
 use Rattle.waits.specs.Owners.{then_writer, owners_for, owners}
 use Rattle.waits.specs.Waiting.{Linking, unwaited, clear, set_intent, register, renew_for, renew, renew_start, renew_all, refreshed, refresh, refresh_next, refresh_locks}
 use Rattle.waits.specs.declared.tables.Waits.{Waits}
-use Rattle.waits.specs.declared.intent.Slot.{Slot}
 use Rattle.waits.specs.declared.intent.WaitIntent.{WaitIntent}
 use Rattle.waits.specs.declared.intent.WaitMode.{WaitMode}
 use Rattle.waits.specs.declared.intent.WaitMode.TheVariants.{Mutex, RwRead, RwWrite}
-use Rattle.waits.specs.declared.intent.Awaits.{Awaits}
-use Rattle.waits.specs.declared.intent.Awaits.TheVariants.{Nothing, For}
 
 -- ---- The tables stay in range
 
 -- In tables that are in range, every intent names a lock below 64.
-pub lock_of_lem : (w : Waits) (t : ℕ) (i : WaitIntent) → InRange w → intent_of w t ≡ For i → i.lock_id < 64
+pub lock_of_lem : (w : Waits) (t : ℕ) (i : WaitIntent) → InRange w → intent_of w t ≡ Some i → i.lock_id < 64
 lock_of_lem w t i s e = rw e at (s.locks t)
 
 -- Storing an intent on a lock below 64 keeps the tables in range.
-range_slot : (w : Waits) (t : ℕ) (v : Slot) (x : List ℕ) → lock_of v.awaits < 64 → InRange w → InRange (with_intents w (set w.thread_waits_for t v) x)
+range_slot : (w : Waits) (t : ℕ) (v : Option WaitIntent) (x : List ℕ) → lock_of v < 64 → InRange w → InRange (with_intents w (set w.thread_waits_for t v) x)
 range_slot w t v x h s =
     record {
-      locks = set_all (λ (z : Slot). lock_of z.awaits < 64) w.thread_waits_for t v no_slot h s.locks;
+      locks = set_all (λ (z : Option WaitIntent). lock_of z < 64) w.thread_waits_for t v None h s.locks;
       owner = s.owner;
       writer = s.writer;
     }
@@ -56,9 +51,9 @@ pub range_write : (w : Waits) (l o : ℕ) → o ≤ 32 → InRange w → InRange
 range_write w l o h s =
     record { locks = s.locks; owner = s.owner; writer = set_all (λ (x : ℕ). x ≤ 32) w.rwlock_writer l o 0 h s.writer }
 
-pub range_unwaited : (w : Waits) (t : ℕ) (a : Awaits) → InRange w → InRange (unwaited w t a)
-range_unwaited w t Nothing s = s
-range_unwaited w t (For i) s = range_slot w t no_slot _ (lit< tt) s
+pub range_unwaited : (w : Waits) (t : ℕ) (a : Option WaitIntent) → InRange w → InRange (unwaited w t a)
+range_unwaited w t None s = s
+range_unwaited w t (Some i) s = range_slot w t None _ (lit< tt) s
 
 pub range_clear : (w : Waits) (t : ℕ) → InRange w → InRange (clear w t)
 unfolding clear
@@ -66,7 +61,7 @@ range_clear w t s = range_graph (unwaited w t (intent_of w t)) _ (range_unwaited
 
 pub range_set : (w : Waits) (t : ℕ) (i : WaitIntent) → i.lock_id < 64 → InRange w → InRange (set_intent w t i)
 unfolding set_intent
-range_set w t i h s = range_slot (clear w t) t (record { awaits = For i }) _ h (range_clear w t s)
+range_set w t i h s = range_slot (clear w t) t (Some i) _ h (range_clear w t s)
 
 pub range_register : (c : List ℕ) (w : Waits) (t : ℕ) (i : WaitIntent) → i.lock_id < 64 → InRange w → InRange (register c w t i).waits
 unfolding register
@@ -85,12 +80,12 @@ range_locks c (l ∷ ls) s h = range_locks c ls (refresh_next c s l) (range_refr
 pub range_empty : InRange empty
 range_empty =
     record {
-      locks = λ t. subst (λ (z : Slot). lock_of z.awaits < 64) (sym (slot 32 t)) (lit< tt);
+      locks = λ t. subst (λ (z : Option WaitIntent). lock_of z < 64) (sym (slot 32 t)) (lit< tt);
       owner = none 64;
       writer = none 64;
     }
   where
-    slot : (n t : ℕ) → get_or (replicate n no_slot) t no_slot ≡ no_slot
+    slot : (n t : ℕ) → get_or {A = Option WaitIntent} (replicate n None) t None ≡ None
     slot zero t = refl
     slot (suc n) zero = refl
     slot (suc n) (suc t) = slot n t
@@ -131,9 +126,9 @@ fits_renew : (c : List ℕ) (w : Waits) (k : Adding) (t : ℕ) → Fits k.found 
 unfolding renew
 fits_renew c w k t f = go (intent_of w t)
   where
-    go : (a : Awaits) → Fits (renew_for c w k t a).found
-    go Nothing = f
-    go (For i) = fits_first k.found _ f (fits_owners t _ _ (owners_lt c w i))
+    go : (a : Option WaitIntent) → Fits (renew_for c w k t a).found
+    go None = f
+    go (Some i) = fits_first k.found _ f (fits_owners t _ _ (owners_lt c w i))
 
 fits_all : (c : List ℕ) (w : Waits) (ts : List ℕ) (k : Adding) → Fits k.found → Fits (foldl (renew c w) k ts).found
 fits_all c w [] k f = f
@@ -155,11 +150,3 @@ fits_next c (l ∷ ls) s f = fits_next c ls (refresh_next c s l) (fits_first s.f
 pub fits_locks : (c : List ℕ) (w : Waits) (ls : List ℕ) → Fits (refresh_locks c w ls).found
 unfolding refresh_locks
 fits_locks c w ls = fits_next c ls _ fits_none
-
--- ---- If there are no edges from t, clearing them changes nothing
-
-pub clear_idle : (g : WaitForGraph) (t : ℕ) → row g.edges t ≡ 0 → clear_wait_edges g t ≡ g
-unfolding clear_wait_edges cut_all
-clear_idle g t e =
-    let s : set g.edges t 0 ≡ g.edges = ap (set g.edges t) (sym e) ∙ set-get_or g.edges t 0 in
-    rw (e, upward_zero 32 0, s)

@@ -2,7 +2,7 @@
 use mathlib.Core.Path.{◌≡◌, refl, sym, ap, ◌∙◌}
 use mathlib.Core.Logic.{◌⊎◌, inl, inr, ⊎_elim}
 use mathlib.Core.List.{List, [], ◌∷◌, ◌++◌}
-use mathlib.Core.Bool.{Bool, true, false, not, cond, true≢false, false≢true}
+use mathlib.Core.Bool.{Bool, true, false, not, cond, ◌&&◌, true≢false, false≢true}
 use Prim.Native.Nat.{ℕ, zero, suc, ◌+◌, ◌*◌, ◌/◌, ◌%◌, ◌-◌, ◌^◌, min, ◌<◌, ◌≤◌}
 use native.Mathlib.Numerals.{add-one}
 use native.Mathlib.Omega.{arith}
@@ -11,10 +11,14 @@ use lib.Bits.{bit_and, and_step}
 use lib.Pow.{pow_pos}
 use native.Mathlib.Nat.{pow-suc}
 use lib.Dec.{eqb, ltb, lit<}
-use lib.ListN.{get_or, take, drop, length, drop_of_length-le}
-use lib.Seq.{drop-cons, get_or-take, length-take-le}
-use borrow.Author.Tests.{eq-eqb, ne_eqb, lt-ltb}
-use Rattle.sets.specs.Sets.{bit, has, with, without, upward, lowest}
+use lib.ListN.{get_or, drop, length, drop_of_length-le}
+use lib.Seq.{drop-cons}
+use borrow.Author.Tests.{eq-eqb, ne_eqb, ltb-true, eqb-true, eqb-false}
+use Rattle.std.specs.List.{list_all}
+use Rattle.std.specs.Option.{option_eq}
+use Rattle.std.specs.Prelude.{Option, None, Some, IfSome, option_to_list}
+use Rattle.std.proofs.lemmas.Option.{none-some, same_Some}
+use Rattle.sets.specs.Sets.{bit, has, with, upward}
 use Rattle.sets.specs.Lists.{In, among}
 use Rattle.sets.specs.Below.{those}
 use Rattle.sets.proofs.Digits.{bit_cases, bit_has, has_bit, not_bit, bit_with_same, bit_with_other, with_lt, bit_zero}
@@ -23,27 +27,30 @@ use Rattle.sets.proofs.Lists.{among_in, in_among, both, in_left, in_right, in_ei
 use Rattle.sets.proofs.Below.{last_or, those_in, in_those, those_same, upward_those}
 use Rattle.graph.specs.Search.{row}
 use Rattle.graph.specs.Graph.{one}
+use Rattle.graph.specs.Promises.{Fit}
 use Rattle.waits.specs.Tables.{intent_of, holds_of}
 use Rattle.waits.specs.Counts.{count_of, reads, readers}
 use Rattle.waits.specs.Owners.{then_writer, waits_for}
 use Rattle.waits.specs.Filter.{nothing, all_hold, nobody_reads, common_locks, passes}
 use Rattle.waits.specs.Validate.{around, valid, names, some_awaits, awaited_locks}
-use Rattle.waits.specs.Code.{common_mask, all_read, with_awaited, awaited_mask}
+use Rattle.waits.specs.Code.{named, common_mask, all_read, with_awaited, awaited_mask}
 use Rattle.waits.specs.declared.tables.Waits.{Waits}
-use Rattle.waits.specs.declared.intent.Awaits.{Awaits}
-use Rattle.waits.specs.declared.intent.Awaits.TheVariants.{Nothing, For}
+use Rattle.waits.specs.declared.intent.WaitIntent.{WaitIntent}
 
--- ---- A walk over the first n places of a table
+-- ---- A walk over the places of a list
 
 -- The next element is the one at the place i.
-pub next_of : (ts : List ℕ) (n i : ℕ) → i < n → n ≤ length ts → drop i (take n ts) ≡ get_or ts i 0 ∷ drop (i + 1) (take n ts)
-next_of ts n i h b =
-    let l : length (take n ts) ≡ n = length-take-le n ts b in
-    drop-cons (take n ts) i 0 (omega arith) ∙ rw (get_or-take n ts i 0 h, add-one)
+pub next_of : (p : List ℕ) (i : ℕ) → i < length p → drop i p ≡ get_or p i 0 ∷ drop (i + 1) p
+next_of p i h = drop-cons p i 0 h ∙ rw add-one
 
--- From n on there is none.
-pub done_of : (ts : List ℕ) (n i : ℕ) → n ≤ i → n ≤ length ts → drop i (take n ts) ≡ []
-done_of ts n i h b = let l : length (take n ts) ≡ n = length-take-le n ts b in drop_of_length-le (take n ts) {i = i} (omega arith)
+-- A list of length 0 is empty.
+pub no_threads : (p : List ℕ) → length p ≡ 0 → p ≡ []
+no_threads [] e = refl
+no_threads (x ∷ p) e = absurd (omega arith)
+
+-- The first thread of a path and all others are below 32.
+pub first_fit : (p : List ℕ) (x : ℕ) (r : List ℕ) → Fit p → p ≡ x ∷ r → (x < 32) × ((k : ℕ) → get_or r k 0 < 32)
+first_fit p x r f e = (rw e at (f.small 0), λ k. rw e at (f.small (suc k)))
 
 -- ---- The mask of the readers
 
@@ -102,19 +109,45 @@ among_upward m o h = go (has m o) refl
 pub in_mask : (m o : ℕ) (rs : List ℕ) (b : Bool) → o < 32 → upward 32 m ≡ rs → has m o ≡ b → among o rs ≡ b
 in_mask m o rs b h e f = ap (among o) (sym e) ∙ among_upward m o h ∙ f
 
--- The writer comes last, unless it is nobody or one of the readers.
-pub last_none : (o : ℕ) (rs : List ℕ) → o ≡ 32 → rs ++ one o ≡ then_writer rs o
-last_none o rs e = rw e (ap (λ l. rs ++ l) (go (among 32 rs)))
+-- The owner that a byte names is the list that the rule has.
+pub named_one : (o : ℕ) → option_to_list (named o) ≡ one o
+named_one o = go (ltb o 32)
   where
-    go : (b : Bool) → [] ≡ cond b [] (one 32)
+    go : (b : Bool) → option_to_list (cond b (Some o) None) ≡ cond b (o ∷ []) []
     go true = refl
     go false = refl
 
-pub last_in : (o : ℕ) (rs : List ℕ) → among o rs ≡ true → rs ++ one 32 ≡ then_writer rs o
+-- A byte that names a thread is that thread, below 32.
+pub named_some : (o x : ℕ) → named o ≡ Some x → (o ≡ x) × (x < 32)
+named_some o x = go (ltb o 32) (ltb-true o 32)
+  where
+    go : (b : Bool) → (b ≡ true → o < 32) → cond b (Some o) None ≡ Some x → (o ≡ x) × (x < 32)
+    go true h e = let q = same_Some o x e in (q, rw q at (h refl))
+    go false h e = absurd (none-some x e)
+
+pub named_below : (o : ℕ) → IfSome (named o) (λ x. x < 32)
+named_below o = go (named o) (named_some o)
+  where
+    go : (r : Option ℕ) → ((x : ℕ) → r ≡ Some x → (o ≡ x) × (x < 32)) → IfSome r (λ x. x < 32)
+    go None h = tt
+    go (Some x) h = (h x refl).1
+
+-- The writer comes last, unless it is nobody or one of the readers.
+pub last_in : (o : ℕ) (rs : List ℕ) → among o rs ≡ true → rs ++ [] ≡ then_writer rs o
 last_in o rs e = rw e
 
-pub last_out : (o : ℕ) (rs : List ℕ) → among o rs ≡ false → rs ++ one o ≡ then_writer rs o
-last_out o rs e = rw e
+pub last_out : (o : ℕ) (rs : List ℕ) → among o rs ≡ false → rs ++ option_to_list (named o) ≡ then_writer rs o
+last_out o rs e = rw (e, named_one)
+
+pub last_none : (o : ℕ) (rs : List ℕ) → named o ≡ None → rs ++ [] ≡ then_writer rs o
+last_none o rs e = ap (λ l. rs ++ l) (go (among o rs))
+  where
+    z : [] ≡ one o
+    z = (ap option_to_list (sym e)) ∙ named_one o
+
+    go : (b : Bool) → [] ≡ cond b [] (one o)
+    go true = refl
+    go false = z
 
 -- ---- Who waits for whom
 
@@ -126,67 +159,74 @@ not_in x l n = go (among x l) refl
     go true e = absurd (n (among_in x l e))
     go false e = e
 
-module _ (m o u : ℕ) (h : u < 32) where
-  -- A thread is among the owners if it is the last one, or is in the mask.
-  pub among_last : o ≡ u → among u (upward 32 m ++ one o) ≡ true
-  among_last e = in_among u _ (in_right u (upward 32 m) (one o) (rw (lt-ltb o 32 (omega arith)) (inl (sym e))))
+module _ (m u : ℕ) (h : u < 32) (os : List ℕ) where
+  -- A thread is among the owners if it is one of the last ones, or is in the mask.
+  pub among_last : In u os → among u (upward 32 m ++ os) ≡ true
+  among_last e = in_among u _ (in_right u (upward 32 m) os e)
 
-  pub among_other : (o ≡ u → ⊥) → among u (upward 32 m ++ one o) ≡ has m u
+  pub among_other : (In u os → ⊥) → among u (upward 32 m ++ os) ≡ has m u
   among_other n = go (has m u) refl
     where
-      one_not : (b : Bool) → In u (cond b (o ∷ []) []) → ⊥
-      one_not true (inl e) = n (sym e)
-      one_not true (inr i) = i
-      one_not false i = i
-
-      go : (b : Bool) → has m u ≡ b → among u (upward 32 m ++ one o) ≡ b
-      go true e = in_among u _ (in_left u (upward 32 m) (one o) (digit_upward 32 m u h (has_bit m u e)))
+      go : (b : Bool) → has m u ≡ b → among u (upward 32 m ++ os) ≡ b
+      go true e = in_among u _ (in_left u (upward 32 m) os (digit_upward 32 m u h (has_bit m u e)))
       go false e =
           not_in u _
-          (λ i. ⊎_elim (λ j. omega (arith, upward_bit 32 m u j, not_bit m u e)) (one_not (ltb o 32)) (in_either u (upward 32 m) (one o) i))
+          (λ i. ⊎_elim (λ j. omega (arith, upward_bit 32 m u j, not_bit m u e)) n (in_either u (upward 32 m) os i))
+
+-- The last owner is u exactly when the code's `==` says so.
+pub last_is : (r : Option ℕ) (u : ℕ) → option_eq eqb r (Some u) ≡ true → In u (option_to_list r)
+last_is None u e = absurd (false≢true e)
+last_is (Some o) u e = inl (sym (eqb-true o u e))
+
+pub last_not : (r : Option ℕ) (u : ℕ) → option_eq eqb r (Some u) ≡ false → In u (option_to_list r) → ⊥
+last_not None u e i = i
+last_not (Some o) u e (inl q) = eqb-false o u e (sym q)
+last_not (Some o) u e (inr i) = i
 
 -- ---- The test of a cycle
 
-module _ (c : List ℕ) (w : Waits) (ts : List ℕ) (n : ℕ) (b : n ≤ length ts) where
-  -- The test starts with the first thread, goes on as long as each waits for the next, and ends with the first again.
-  pub valid_first : 0 < n → around c w (get_or ts 0 0) (get_or ts 0 0) (drop 1 (take n ts)) ≡ valid c w (take n ts)
+module _ (c : List ℕ) (w : Waits) where
+  -- The empty path is not valid. The test of another one starts with its first thread.
+  pub valid_none : false ≡ valid c w []
   unfolding valid
-  valid_first h = sym (ap (valid c w) (next_of ts n 0 h b))
+  valid_none = refl
 
-  pub valid_none : n ≡ 0 → false ≡ valid c w (take n ts)
+  pub valid_first : (a : ℕ) (r : List ℕ) → around c w a a r ≡ valid c w (a ∷ r)
   unfolding valid
-  valid_none e = rw e
+  valid_first a r = refl
 
-  pub around_step : (f a i : ℕ) → i < n → waits_for c w a (get_or ts i 0) ≡ true
-      → around c w f (get_or ts i 0) (drop (i + 1) (take n ts)) ≡ around c w f a (drop i (take n ts))
-  unfolding around
-  around_step f a i h e = rw (next_of ts n i h b, e)
+  module _ (r : List ℕ) where
+    -- The test goes on as long as each thread waits for the next, and ends with the first again.
+    pub around_step : (f a i : ℕ) → i < length r → waits_for c w a (get_or r i 0) ≡ true
+        → around c w f (get_or r i 0) (drop (i + 1) r) ≡ around c w f a (drop i r)
+    unfolding around
+    around_step f a i h e = rw (next_of r i h, e)
 
-  pub around_stop : (f a i : ℕ) → i < n → waits_for c w a (get_or ts i 0) ≡ false → false ≡ around c w f a (drop i (take n ts))
-  unfolding around
-  around_stop f a i h e = rw (next_of ts n i h b, e)
+    pub around_stop : (f a i : ℕ) → i < length r → waits_for c w a (get_or r i 0) ≡ false → false ≡ around c w f a (drop i r)
+    unfolding around
+    around_stop f a i h e = rw (next_of r i h, e)
 
-  pub around_end : (f a i : ℕ) → n ≤ i → waits_for c w a f ≡ around c w f a (drop i (take n ts))
-  unfolding around
-  around_end f a i h = rw (done_of ts n i h b)
+    pub around_end : (f a i : ℕ) → length r ≤ i → waits_for c w a f ≡ around c w f a (drop i r)
+    unfolding around
+    around_end f a i h = rw (drop_of_length-le r {i = i} h)
 
 -- ---- The awaited locks
 
-module _ (w : Waits) (ts : List ℕ) (n : ℕ) (b : n ≤ length ts) where
+module _ (w : Waits) (p : List ℕ) where
   -- One turn of the loop adds the lock of one thread.
-  pub awaited_step : (m i : ℕ) → i < n
-      → awaited_mask w (with_awaited m (intent_of w (get_or ts i 0))) (drop (i + 1) (take n ts)) ≡ awaited_mask w m (drop i (take n ts))
+  pub awaited_step : (m i : ℕ) → i < length p
+      → awaited_mask w (with_awaited m (intent_of w (get_or p i 0))) (drop (i + 1) p) ≡ awaited_mask w m (drop i p)
   unfolding awaited_mask
-  awaited_step m i h = rw (next_of ts n i h b)
+  awaited_step m i h = rw (next_of p i h)
 
-  pub awaited_end : (m i : ℕ) → n ≤ i → m ≡ awaited_mask w m (drop i (take n ts))
+  pub awaited_end : (m i : ℕ) → length p ≤ i → m ≡ awaited_mask w m (drop i p)
   unfolding awaited_mask
-  awaited_end m i h = rw (done_of ts n i h b)
+  awaited_end m i h = rw (drop_of_length-le p {i = i} h)
 
 -- A lock is in the mask with an intent's lock if the intent names it or it was there.
-has_awaited : (m l : ℕ) (a : Awaits) → has (with_awaited m a) l ≡ cond (names a l) true (has m l)
-has_awaited m l Nothing = refl
-has_awaited m l (For i) = go (ℕ_discrete i.lock_id l)
+has_awaited : (m l : ℕ) (a : Option WaitIntent) → has (with_awaited m a) l ≡ cond (names a l) true (has m l)
+has_awaited m l None = refl
+has_awaited m l (Some i) = go (ℕ_discrete i.lock_id l)
   where
     go : Dec (i.lock_id ≡ l) → has (with m i.lock_id) l ≡ cond (eqb i.lock_id l) true (has m l)
     go (yes e) = rw (eq-eqb i.lock_id l e) (bit_has _ l (ap (λ (k : ℕ). bit (with m k) l) e ∙ bit_with_same m l))
@@ -218,15 +258,15 @@ awaited_locks_lem w p = upward_those 64 (awaited_mask w 0 p) ∙ those_same (has
 
 -- ---- The filter
 
-module _ (h ts : List ℕ) (n : ℕ) (b : n ≤ length ts) where
+module _ (h p : List ℕ) where
   -- One turn of the loop takes out the locks that one more thread does not hold.
-  pub common_step : (m i : ℕ) → i < n → common_mask h (bit_and m (row h (get_or ts i 0))) (drop (i + 1) (take n ts)) ≡ common_mask h m (drop i (take n ts))
+  pub common_step : (m i : ℕ) → i < length p → common_mask h (bit_and m (row h (get_or p i 0))) (drop (i + 1) p) ≡ common_mask h m (drop i p)
   unfolding common_mask
-  common_step m i p = rw (next_of ts n i p b)
+  common_step m i q = rw (next_of p i q)
 
-  pub common_end : (m i : ℕ) → n ≤ i → m ≡ common_mask h m (drop i (take n ts))
+  pub common_end : (m i : ℕ) → length p ≤ i → m ≡ common_mask h m (drop i p)
   unfolding common_mask
-  common_end m i p = rw (done_of ts n i p b)
+  common_end m i q = rw (drop_of_length-le p {i = i} q)
 
 -- The digit of a & b is the lower of the two digits.
 bit_and_lem : (a b i : ℕ) → bit (bit_and a b) i ≡ min (bit a i) (bit b i)
@@ -334,16 +374,20 @@ nobody_zero c l m e z = ap nothing (sym e ∙ ap (upward 32) z ∙ upward_zero 3
 pub nobody_some : (c : List ℕ) (l m : ℕ) → upward 32 m ≡ readers c l → 0 < m → m < 2 ^ 32 → nobody_reads c l ≡ false
 nobody_some c l m e p h = ap nothing (sym e ∙ upward_step 32 m p h)
 
-module _ (c : List ℕ) (m : ℕ) (p : 0 < m) (h : m < 2 ^ 64) where
-  -- The loop stops at a lock without readers, and goes on at one with readers.
-  pub read_stop : nobody_reads c (lowest 64 m) ≡ true → false ≡ all_read c (upward 64 m)
-  unfolding all_read
-  read_stop e = rw (upward_step 64 m p h, e)
+-- The code's test of the mask says whether the lock has readers.
+pub read_mask : (c : List ℕ) (l m : ℕ) → upward 32 m ≡ readers c l → m < 2 ^ 32 → not (eqb m 0) ≡ not (nobody_reads c l)
+read_mask c l m e h = ap not (go (eqb m 0) refl)
+  where
+    go : (b : Bool) → eqb m 0 ≡ b → b ≡ nobody_reads c l
+    go true z = sym (nobody_zero c l m e (eqb-true m 0 z))
+    go false z = let n : (m ≡ 0 → ⊥) = eqb-false m 0 z in sym (nobody_some c l m e (omega (arith, n)) h)
 
-  pub read_step : nobody_reads c (lowest 64 m) ≡ false → all_read c (upward 64 (without m (lowest 64 m))) ≡ all_read c (upward 64 m)
-  unfolding all_read
-  read_step e = rw (upward_step 64 m p h, e)
-
-pub read_end : (c : List ℕ) (m : ℕ) → m ≡ 0 → true ≡ all_read c (upward 64 m)
+-- `all_read` is the library's test of each lock of the list.
+pub read_list : (c : List ℕ) (ls : List ℕ) → list_all (λ l. not (nobody_reads c l)) ls ≡ all_read c ls
 unfolding all_read
-read_end c m e = rw (e, upward_zero 64 0)
+read_list c [] = refl
+read_list c (l ∷ ls) = go (nobody_reads c l) ∙ ap (cond (nobody_reads c l) false) (read_list c ls)
+  where
+    go : (b : Bool) → (not b && list_all (λ l. not (nobody_reads c l)) ls) ≡ cond b false (list_all (λ l. not (nobody_reads c l)) ls)
+    go true = refl
+    go false = refl

@@ -2,7 +2,7 @@
 use mathlib.Core.Path.{◌≡◌, refl}
 use mathlib.Core.List.{List, [], ◌∷◌}
 use mathlib.Core.Bool.{true, false}
-use mathlib.Core.Option.{some}
+use Rattle.std.specs.Prelude.{Some}
 use Prim.Native.Nat.{ℕ}
 use lib.ListN.{set, replicate}
 use Rattle.sets.specs.Sets.{bit, with, without, upward_from}
@@ -18,7 +18,6 @@ use Rattle.waits.specs.Filter.{all_hold, common_locks, passes}
 use Rattle.waits.specs.Attempt.{mutex_on}
 use Rattle.waits.specs.declared.intent.WaitIntent.{WaitIntent}
 use Rattle.waits.specs.declared.intent.WaitMode.TheVariants.{RwWrite}
-use Rattle.waits.specs.declared.intent.Awaits.TheVariants.{For}
 
 -- Returns the counts without readers.
 no_counts : List ℕ
@@ -43,7 +42,7 @@ unfolding no_counts reading writing readers those among
 writer_once = refl
 
 -- The thread that waits may be among the owners: its own read blocks its write.
-self_blocks : (register (reading no_counts 3 7) empty 3 (writing 7)).found ≡ some (3 ∷ [])
+self_blocks : (register (reading no_counts 3 7) empty 3 (writing 7)).found ≡ Some (3 ∷ [])
 unfolding no_counts reading writing readers those among register set_intent clear clear_wait_edges cut_all bit with without upward_from add_owners add_next add_edge closing stored find_path search expand visit way_back
 self_blocks = refl
 
@@ -53,7 +52,7 @@ unfolding no_counts reading writing readers those among register set_intent clea
 rest_linked = refl
 
 -- On a mutex without an owner a thread still gets its intent and becomes a waiter.
-free_mutex : (intent_of (register no_counts empty 2 (mutex_on 5)).waits 2 ≡ For (mutex_on 5)) × (waiters_of (register no_counts empty 2 (mutex_on 5)).waits 5 ≡ 4)
+free_mutex : (intent_of (register no_counts empty 2 (mutex_on 5)).waits 2 ≡ Some (mutex_on 5)) × (waiters_of (register no_counts empty 2 (mutex_on 5)).waits 5 ≡ 4)
 unfolding no_counts readers those among register set_intent clear clear_wait_edges cut_all bit with without upward_from add_owners
 free_mutex = (refl, refl)
 

@@ -1,69 +1,44 @@
--- What the code does in its records is what the rules do.
+-- The code does what the rules do, one waiter and one lock at a time.
 use mathlib.Core.Path.{◌≡◌, refl, sym, ap, ◌∙◌, subst}
-use mathlib.Core.List.{List, [], ◌∷◌, foldl}
-use mathlib.Core.Option.{none}
+use mathlib.Core.List.{List}
 use Prim.Native.Nat.{ℕ}
-use Rattle.graph.specs.Graph.{Adding}
-use Rattle.graph.specs.Code.{sought_of, added}
-use Rattle.graph.specs.declared.wait_for_graph.Added.{Added}
+use Rattle.std.specs.Prelude.{Option, None, Some}
+use Rattle.std.specs.Option.{option_or}
+use Rattle.graph.specs.Graph.{Adding, adding, first}
+use Rattle.graph.specs.declared.wait_for_graph.WaitForGraph.{WaitForGraph}
 use Rattle.graph.proofs.Owners.{sooner_first}
-use Rattle.waits.specs.Tables.{intent_of, InRange}
-use Rattle.waits.specs.Waiting.{Linking, later, renew_for, renew, renew_start, renew_all, refresh_next, refresh_locks}
-use Rattle.waits.specs.Code.{linked, later_c, renew_for_c, renew_c, refresh_next_c}
+use Rattle.waits.specs.Tables.{intent_of, with_graph, InRange}
+use Rattle.waits.specs.Waiting.{Linking, renew_for, renew, refresh, refresh_next}
+use Rattle.waits.specs.Code.{linked}
 use Rattle.waits.specs.declared.tables.Waits.{Waits}
-use Rattle.waits.specs.declared.tables.Linked.{Linked}
-use Rattle.waits.specs.declared.intent.Awaits.{Awaits}
-use Rattle.waits.specs.declared.intent.Awaits.TheVariants.{Nothing, For}
+use Rattle.waits.specs.declared.intent.WaitIntent.{WaitIntent}
 
--- The code keeps the first path as the rule does.
-after_code : (k n : Adding) → later_c (added k) (added n) ≡ added (later k n)
-after_code k n = rw sooner_first
+first_alone : (o : Option (List ℕ)) → first o None ≡ o
+first_alone (Some p) = refl
+first_alone None = refl
 
--- Renewing the edges of one waiter in the code's record is renewing them by the rule.
-renew_code : (c : List ℕ) (w : Waits) (k : Adding) (t : ℕ) → renew_c c w (added k) t ≡ added (renew c w k t)
-unfolding renew_c renew
-renew_code c w k t = go (intent_of w t)
+-- Renewing one more waiter in the code is renewing it by the rule, whose owners do not depend on the graph.
+pub renew_step : (c : List ℕ) (w : Waits) (g h : WaitForGraph) (before now : Option (List ℕ)) (t : ℕ)
+    → adding h now ≡ renew c (with_graph w g) (adding g None) t → adding h (option_or before now) ≡ renew c w (adding g before) t
+unfolding renew
+renew_step c w g h before now t = go (intent_of w t)
   where
-    go : (a : Awaits) → renew_for_c c w (added k) t a ≡ added (renew_for c w k t a)
-    go Nothing = refl
-    go (For i) = after_code k _
+    keep : (k : Adding) → adding h now ≡ k → adding h (option_or before now) ≡ adding k.graph (first before k.found)
+    keep k e = rw sooner_first (ap (λ (x : Adding). adding x.graph (first before x.found)) e)
 
--- Renews the edges of each of the threads, in the code's records.
-unfoldable pub renew_all_c : List ℕ → Waits → Added → List ℕ → Added
-renew_all_c c w a ts = foldl (renew_c c w) a ts
+    go : (a : Option WaitIntent) → adding h now ≡ renew_for c w (adding g None) t a → adding h (option_or before now) ≡ renew_for c w (adding g before) t a
+    go None e = keep _ e ∙ ap (adding g) (first_alone before)
+    go (Some i) e = keep _ e
 
--- Refreshes the waiters of each of the locks, in the code's records.
-unfoldable pub refresh_all_c : List ℕ → Linked → List ℕ → Linked
-refresh_all_c c k ls = foldl (refresh_next_c c) k ls
-
-all_code : (c : List ℕ) (w : Waits) (ts : List ℕ) (k : Adding) → renew_all_c c w (added k) ts ≡ added (foldl (renew c w) k ts)
-unfolding renew_all_c
-all_code c w [] k = refl
-all_code c w (t ∷ ts) k = ap (λ a. foldl (renew_c c w) a ts) (renew_code c w k t) ∙ all_code c w ts (renew c w k t)
-
--- The code's walk over the waiters gives the record of the rule's result.
-pub renew_all_code : (c : List ℕ) (w : Waits) (ts : List ℕ) → renew_all_c c w (added (renew_start w)) ts ≡ added (renew_all c w ts)
-unfolding renew_all
-renew_all_code c w ts = all_code c w ts (renew_start w)
-
--- Refreshing one more lock in the code's record is refreshing it by the rule.
-refresh_code : (c : List ℕ) (s : Linking) (l : ℕ) → refresh_next_c c (linked s) l ≡ linked (refresh_next c s l)
-unfolding refresh_next_c refresh_next
-refresh_code c s l = rw sooner_first
-
-locks_code : (c : List ℕ) (ls : List ℕ) (s : Linking) → refresh_all_c c (linked s) ls ≡ linked (foldl (refresh_next c) s ls)
-unfolding refresh_all_c
-locks_code c [] s = refl
-locks_code c (l ∷ ls) s = ap (λ k. foldl (refresh_next_c c) k ls) (refresh_code c s l) ∙ locks_code c ls (refresh_next c s l)
-
--- The code's walk over the locks gives the record of the rule's result.
-pub refresh_all_code : (c : List ℕ) (w : Waits) (ls : List ℕ) → refresh_all_c c (record { waits = w; sought = sought_of none }) ls ≡ linked (refresh_locks c w ls)
-unfolding refresh_locks
-refresh_all_code c w ls = locks_code c ls (record { waits = w; found = none })
+-- Refreshing one more lock in the code is refreshing it by the rule.
+pub refresh_step : (c : List ℕ) (w v : Waits) (before now : Option (List ℕ)) (l : ℕ)
+    → linked v now ≡ refresh c w l → linked v (option_or before now) ≡ refresh_next c (linked w before) l
+unfolding refresh_next
+refresh_step c w v before now l e = rw sooner_first (ap (λ (r : Linking). linked r.waits (first before r.found)) e)
 
 -- A result that equals tables in range is in range.
 pub pack : {r s : Waits} → r ≡ s → InRange s → (r ≡ s) × InRange r
 pack e h = (e, subst InRange (sym e) h)
 
-pub pack_linked : {r s : Linked} → r ≡ s → InRange s.waits → (r ≡ s) × InRange r.waits
-pack_linked e h = (e, subst (λ (x : Linked). InRange x.waits) (sym e) h)
+pub pack_linked : {v : Waits} {o : Option (List ℕ)} {s : Linking} → linked v o ≡ s → InRange s.waits → (linked v o ≡ s) × InRange v
+pack_linked {v} {o} {s} e h = (e, subst InRange (sym (ap (λ (x : Linking). x.waits) e)) h)

@@ -1,6 +1,5 @@
 -- What the events that may report are made of.
-use Rattle.std.specs.Prelude.{List, Bool, false, cond, ℕ, eqb}
-use Rattle.std.proofs.Math.Option.{Option, none, some}
+use Rattle.std.specs.Prelude.{List, Bool, false, cond, ℕ, eqb, Option, None, Some}
 use Rattle.sets.specs.Limits.{NOBODY}
 use Rattle.waits.specs.Tables.{writer_of}
 use Rattle.waits.specs.Waiting.{Linking, register, refresh}
@@ -14,8 +13,8 @@ use Rattle.waits.specs.declared.intent.WaitMode.TheVariants.{Mutex, RwRead, RwWr
 
 -- Validates a path. If there is none, nothing is reported.
 abbrev pub judge_found : List ℕ → Waits → Option (List ℕ) → Judging
-judge_found counts w none = quiet w
-judge_found counts w (some p) = validate counts w p
+judge_found counts w None = quiet w
+judge_found counts w (Some p) = validate counts w p
 
 -- Validates the path that registering or refreshing found.
 abbrev pub judge : List ℕ → Linking → Judging
@@ -23,8 +22,8 @@ judge counts s = judge_found counts s.waits s.found
 
 -- Filters a path, and validates it if it passes. If there is none or it does not pass, nothing is reported.
 abbrev pub sieve_found : List ℕ → Waits → Option (List ℕ) → Judging
-sieve_found counts w none = quiet w
-sieve_found counts w (some p) = cond (passes counts w p) (validate counts w p) (quiet w)
+sieve_found counts w None = quiet w
+sieve_found counts w (Some p) = cond (passes counts w p) (validate counts w p) (quiet w)
 
 -- Filters the path that registering found, and validates it if it passes.
 abbrev pub sieve : List ℕ → Linking → Judging

@@ -1,5 +1,5 @@
 -- OWNERS THAT BLOCK an intent, and who truly waits for whom.
-use Rattle.std.specs.Prelude.{List, [], ◌++◌, Bool, cond, ℕ}
+use Rattle.std.specs.Prelude.{List, [], ◌++◌, Bool, cond, ℕ, Option, None, Some}
 use Rattle.sets.specs.Lists.{among}
 use Rattle.graph.specs.Graph.{one}
 use Rattle.waits.specs.Tables.{intent_of, owner_of, writer_of}
@@ -8,8 +8,6 @@ use Rattle.waits.specs.declared.tables.Waits.{Waits}
 use Rattle.waits.specs.declared.intent.WaitIntent.{WaitIntent}
 use Rattle.waits.specs.declared.intent.WaitMode.{WaitMode}
 use Rattle.waits.specs.declared.intent.WaitMode.TheVariants.{Mutex, RwRead, RwWrite}
-use Rattle.waits.specs.declared.intent.Awaits.{Awaits}
-use Rattle.waits.specs.declared.intent.Awaits.TheVariants.{Nothing, For}
 
 -- Returns the readers rs, and then the writer o unless it is nobody or one of them.
 abbrev pub then_writer : List ℕ → ℕ → List ℕ
@@ -28,9 +26,9 @@ owners counts w i = owners_for counts w i.lock_id i.mode
 
 -- TRULY WAITS
 -- Returns the owners that block a thread, or no owners if it has no intent.
-abbrev pub blocking : List ℕ → Waits → Awaits → List ℕ
-blocking counts w Nothing = []
-blocking counts w (For i) = owners counts w i
+abbrev pub blocking : List ℕ → Waits → Option WaitIntent → List ℕ
+blocking counts w None = []
+blocking counts w (Some i) = owners counts w i
 
 -- Returns true if a truly waits for b: b is one of the owners that block a's intent. Without an intent it is false.
 unfoldable pub waits_for : List ℕ → Waits → ℕ → ℕ → Bool

@@ -1,28 +1,22 @@
 -- The tables that every event may change.
-use Rattle.std.specs.Prelude.{List, ℕ, ◌<◌, ◌≤◌, get_or, set, replicate}
+use Rattle.std.specs.Prelude.{List, ℕ, ◌<◌, ◌≤◌, get_or, set, replicate, Option, None, Some}
 use Rattle.sets.specs.Limits.{THREADS, LOCKS, NOBODY}
 use Rattle.sets.specs.Sets.{with, without}
 use Rattle.graph.specs.Search.{row}
 use Rattle.graph.specs.Graph as graph
 use Rattle.graph.specs.declared.wait_for_graph.WaitForGraph.{WaitForGraph}
 use Rattle.waits.specs.declared.tables.Waits.{Waits}
-use Rattle.waits.specs.declared.intent.Slot.{Slot}
-use Rattle.waits.specs.declared.intent.Awaits.{Awaits}
-use Rattle.waits.specs.declared.intent.Awaits.TheVariants.{Nothing, For}
+use Rattle.waits.specs.declared.intent.WaitIntent.{WaitIntent}
 
 -- READING
--- Returns the slot of a thread without an intent.
-abbrev pub no_slot : Slot
-no_slot = record { awaits = Nothing }
-
--- Returns the intent of thread t, or Nothing.
-abbrev pub intent_of : Waits → ℕ → Awaits
-intent_of w t = (get_or w.thread_waits_for t no_slot).awaits
+-- Returns the intent of thread t, or None.
+abbrev pub intent_of : Waits → ℕ → Option WaitIntent
+intent_of w t = get_or w.thread_waits_for t None
 
 -- Returns the lock that an intent names, or 0 if there is none.
-abbrev pub lock_of : Awaits → ℕ
-lock_of Nothing = 0
-lock_of (For i) = i.lock_id
+abbrev pub lock_of : Option WaitIntent → ℕ
+lock_of None = 0
+lock_of (Some i) = i.lock_id
 
 -- Returns the waiters of lock l as a set.
 abbrev pub waiters_of : Waits → ℕ → ℕ
@@ -54,7 +48,7 @@ with_graph w g =
     }
 
 -- Returns the tables with other intents and other waiters.
-abbrev pub with_intents : Waits → List Slot → List ℕ → Waits
+abbrev pub with_intents : Waits → List (Option WaitIntent) → List ℕ → Waits
 with_intents w s l =
     record {
       wait_for_graph = w.wait_for_graph;
@@ -114,7 +108,7 @@ abbrev pub empty : Waits
 empty =
     record {
       wait_for_graph = graph.empty;
-      thread_waits_for = replicate THREADS no_slot;
+      thread_waits_for = replicate THREADS None;
       lock_waiters = replicate LOCKS 0;
       thread_holds = replicate THREADS 0;
       mutex_owners = replicate LOCKS NOBODY;

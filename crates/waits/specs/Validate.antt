@@ -1,7 +1,6 @@
 -- VALIDATE. A cycle is valid if it has a thread, and every thread truly waits for the one after it, the last one for
 -- the first.
-use Rattle.std.specs.Prelude.{List, [], ◌∷◌, Bool, true, false, cond, ℕ, eqb}
-use Rattle.std.proofs.Math.Option.{Option, none, some}
+use Rattle.std.specs.Prelude.{List, [], ◌∷◌, Bool, true, false, cond, ℕ, eqb, Option, None, Some}
 use Rattle.sets.specs.Limits.{LOCKS}
 use Rattle.sets.specs.Below.{those}
 use Rattle.waits.specs.Tables.{intent_of}
@@ -9,8 +8,7 @@ use Rattle.waits.specs.Owners.{waits_for}
 use Rattle.waits.specs.Waiting.{Linking, refresh_locks}
 use Rattle.waits.specs.Report.{Judging, quiet, reporting}
 use Rattle.waits.specs.declared.tables.Waits.{Waits}
-use Rattle.waits.specs.declared.intent.Awaits.{Awaits}
-use Rattle.waits.specs.declared.intent.Awaits.TheVariants.{Nothing, For}
+use Rattle.waits.specs.declared.intent.WaitIntent.{WaitIntent}
 
 -- Returns true if a truly waits for the first thread of r, each thread of r for the next, and the last one for f.
 unfoldable pub around : List ℕ → Waits → ℕ → ℕ → List ℕ → Bool
@@ -23,9 +21,9 @@ valid counts w [] = false
 valid counts w (a ∷ r) = around counts w a a r
 
 -- Returns true if the intent names l.
-abbrev pub names : Awaits → ℕ → Bool
-names Nothing l = false
-names (For i) l = eqb i.lock_id l
+abbrev pub names : Option WaitIntent → ℕ → Bool
+names None l = false
+names (Some i) l = eqb i.lock_id l
 
 -- Returns true if a thread of p awaits l.
 unfoldable pub some_awaits : Waits → List ℕ → ℕ → Bool
@@ -38,8 +36,8 @@ awaited_locks w p = those (some_awaits w p) LOCKS
 
 -- Reports the path if it is valid. It is not filtered, and nothing more is refreshed.
 unfoldable pub checked : List ℕ → Waits → Option (List ℕ) → Judging
-checked counts w none = quiet w
-checked counts w (some p) = cond (valid counts w p) (reporting w p) (quiet w)
+checked counts w None = quiet w
+checked counts w (Some p) = cond (valid counts w p) (reporting w p) (quiet w)
 
 -- Does this with the path that a refresh found.
 abbrev pub again : List ℕ → Linking → Judging

@@ -1,16 +1,13 @@
 -- CLEAR INTENT, REGISTER and REFRESH.
 use mathlib.Core.List.{List, foldl}
-use Rattle.std.proofs.Math.Option.{Option, none}
-use Rattle.std.specs.Prelude.{ℕ, set}
+use Rattle.std.specs.Prelude.{ℕ, set, Option, None, Some}
 use Rattle.sets.specs.Limits.{THREADS}
 use Rattle.sets.specs.Sets.{with, without, upward}
 use Rattle.graph.specs.Graph.{Adding, adding, clear_wait_edges, add_owners, first}
-use Rattle.waits.specs.Tables.{no_slot, intent_of, waiters_of, with_graph, with_intents}
+use Rattle.waits.specs.Tables.{intent_of, waiters_of, with_graph, with_intents}
 use Rattle.waits.specs.Owners.{owners}
 use Rattle.waits.specs.declared.tables.Waits.{Waits}
 use Rattle.waits.specs.declared.intent.WaitIntent.{WaitIntent}
-use Rattle.waits.specs.declared.intent.Awaits.{Awaits}
-use Rattle.waits.specs.declared.intent.Awaits.TheVariants.{Nothing, For}
 
 -- The tables after registering or refreshing, and the first path found.
 pub record Linking : Type 0 where
@@ -19,10 +16,10 @@ pub record Linking : Type 0 where
 
 -- CLEAR INTENT
 -- Removes t's intent and takes t out of the waiters of the lock it named. Nothing changes if there is no intent.
-abbrev pub unwaited : Waits → ℕ → Awaits → Waits
-unwaited w t Nothing = w
-unwaited w t (For i) =
-    with_intents w (set w.thread_waits_for t no_slot) (set w.lock_waiters i.lock_id (without (waiters_of w i.lock_id) t))
+abbrev pub unwaited : Waits → ℕ → Option WaitIntent → Waits
+unwaited w t None = w
+unwaited w t (Some i) =
+    with_intents w (set w.thread_waits_for t None) (set w.lock_waiters i.lock_id (without (waiters_of w i.lock_id) t))
 
 -- Removes t's intent as `unwaited` does, and drops every edge from t. The edges go even if t has no intent.
 unfoldable pub clear : Waits → ℕ → Waits
@@ -33,7 +30,7 @@ clear w t = let u = unwaited w t (intent_of w t) in with_graph u (clear_wait_edg
 unfoldable pub set_intent : Waits → ℕ → WaitIntent → Waits
 set_intent w t i =
     let u = clear w t in
-    with_intents u (set u.thread_waits_for t (record { awaits = For i })) (set u.lock_waiters i.lock_id (with (waiters_of u i.lock_id) t))
+    with_intents u (set u.thread_waits_for t (Some i)) (set u.lock_waiters i.lock_id (with (waiters_of u i.lock_id) t))
 
 -- Returns the tables with the graph that adding edges gave, and its path.
 abbrev pub linking : Waits → Adding → Linking
@@ -49,9 +46,9 @@ abbrev pub later : Adding → Adding → Adding
 later k n = adding n.graph (first k.found n.found)
 
 -- Drops the edges of the waiter t and adds an edge to every owner that blocks its intent. Nothing changes without one.
-abbrev pub renew_for : List ℕ → Waits → Adding → ℕ → Awaits → Adding
-renew_for counts w k t Nothing = k
-renew_for counts w k t (For i) = later k (add_owners t (clear_wait_edges k.graph t) (owners counts w i))
+abbrev pub renew_for : List ℕ → Waits → Adding → ℕ → Option WaitIntent → Adding
+renew_for counts w k t None = k
+renew_for counts w k t (Some i) = later k (add_owners t (clear_wait_edges k.graph t) (owners counts w i))
 
 -- Does this for the intent that the tables have for t.
 unfoldable pub renew : List ℕ → Waits → Adding → ℕ → Adding
@@ -59,7 +56,7 @@ renew counts w k t = renew_for counts w k t (intent_of w t)
 
 -- Returns the graph before the first waiter, with no path yet.
 abbrev pub renew_start : Waits → Adding
-renew_start w = adding w.wait_for_graph none
+renew_start w = adding w.wait_for_graph None
 
 -- Renews the edges of each of the threads, in order, and keeps the first path.
 unfoldable pub renew_all : List ℕ → Waits → List ℕ → Adding
@@ -79,4 +76,4 @@ refresh_next counts s l = let r = refresh counts s.waits l in record { waits = r
 
 -- Refreshes the waiters of each of the locks, in order, and keeps the first path of all.
 unfoldable pub refresh_locks : List ℕ → Waits → List ℕ → Linking
-refresh_locks counts w ls = foldl (refresh_next counts) (record { waits = w; found = none }) ls
+refresh_locks counts w ls = foldl (refresh_next counts) (record { waits = w; found = None }) ls

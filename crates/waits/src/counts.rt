@@ -1,11 +1,12 @@
 // The reader counts: how often each thread reads each lock.
-ghost use Rattle.std.specs.Prelude.{◌≡◌, ◌<◌};
+ghost use Rattle.std.specs.Prelude.{◌≡◌, not, ◌<◌};
 ghost use Rattle.sets.specs.Limits.{THREADS, LOCKS};
 ghost use Rattle.sets.specs.Sets.{upward};
 ghost use Rattle.waits.specs.Counts.{COUNTS, place, readers, count_of, count_up, count_down, no_readers};
+ghost use Rattle.waits.specs.Filter.{nobody_reads};
 
 use crate::tables::Waits;
-use sets::{THREADS, threads};
+use sets::{Set, THREADS};
 
 // Returns the place of the count of thread t and lock l.
 pub fn place(t: usize, l: usize) -> usize
@@ -20,55 +21,46 @@ pub(crate) fn reader_mask(counts: &[u8; Waits::COUNTS], lock: usize) -> u32
     requires { lock < LOCKS }
     ensures { upward THREADS result ≡ readers counts.now lock }
 {
-    let mut m = 0u32;
-    let mut t = 0;
-    while t < THREADS {
-        let at = place(t, lock);
-        if counts[at] != 0 {
-            m = threads::with(m, t);
+    let first = place(0, lock);
+    let mut readers = 0u32;
+    for (t, &count) in counts[first..first + THREADS].iter().enumerate() {
+        if count != 0 {
+            readers = readers.with(t);
         }
-        t += 1;
     }
-    m
+    readers
 }
 
-// Returns the counts with one more read of l by t. That count must be below 255.
-pub fn counted_up(counts: [u8; Waits::COUNTS], t: usize, l: usize) -> [u8; Waits::COUNTS]
-    requires { (t < THREADS) × (l < LOCKS) × (count_of counts t l ≡ 255 → ⊥) }
-    ensures { result ≡ count_up counts t l }
+// Returns true if a thread reads the lock.
+pub(crate) fn is_read(counts: &[u8; Waits::COUNTS], lock: usize) -> bool
+    requires { lock < LOCKS }
+    ensures { result ≡ not (nobody_reads counts.now lock) }
 {
-    let mut r = counts;
-    let at = place(t, l);
-    let n = r[at];
-    r[at] = n + 1;
-    r
+    reader_mask(counts, lock) != 0
 }
 
-// Returns the counts with one read less of l by t. A count of 0 stays 0.
-pub fn counted_down(counts: [u8; Waits::COUNTS], t: usize, l: usize) -> [u8; Waits::COUNTS]
+// Counts one more read of l by t. The count must be below 255.
+pub fn count_up(counts: &mut [u8; Waits::COUNTS], t: usize, l: usize)
+    requires { (t < THREADS) × (l < LOCKS) × (count_of counts.old t l ≡ 255 → ⊥) }
+    ensures { counts.new ≡ count_up counts.old t l }
+{
+    counts[place(t, l)] += 1;
+}
+
+// Counts one read less of l by t. A count of 0 stays 0.
+pub fn count_down(counts: &mut [u8; Waits::COUNTS], t: usize, l: usize)
     requires { (t < THREADS) × (l < LOCKS) }
-    ensures { result ≡ count_down counts t l }
+    ensures { counts.new ≡ count_down counts.old t l }
 {
-    let mut r = counts;
     let at = place(t, l);
-    let n = r[at];
-    if 0 < n {
-        r[at] = n - 1;
-    }
-    r
+    counts[at] = counts[at].saturating_sub(1);
 }
 
-// Returns the counts with no readers of l.
-pub fn no_readers(counts: [u8; Waits::COUNTS], l: usize) -> [u8; Waits::COUNTS]
+// Sets the counts of l to 0, so that it has no readers.
+pub fn no_readers(counts: &mut [u8; Waits::COUNTS], l: usize)
     requires { l < LOCKS }
-    ensures { result ≡ no_readers counts l }
+    ensures { counts.new ≡ no_readers counts.old l }
 {
-    let mut r = counts;
-    let mut t = 0;
-    while t < THREADS {
-        let at = place(t, l);
-        r[at] = 0;
-        t += 1;
-    }
-    r
+    let first = place(0, l);
+    counts[first..first + THREADS].fill(0);
 }

@@ -1,99 +1,65 @@
 // The filter by common locks, and the writing of a report.
-ghost use Rattle.std.specs.Prelude.{◌≡◌, ◌+◌, ◌*◌, ◌≤◌, length};
+ghost use Rattle.std.specs.Prelude.{◌≡◌, ◌+◌, ◌≤◌, length};
 ghost use Rattle.sets.specs.Limits.{LOCKS};
 ghost use Rattle.sets.specs.Sets.{upward};
-ghost use Rattle.graph.specs.Promises.{Fit};
-ghost use Rattle.graph.specs.Code.{list_of};
 ghost use Rattle.waits.specs.Tables.{InRange};
 ghost use Rattle.waits.specs.Filter.{passes};
-ghost use Rattle.waits.specs.Report.{entry_bytes, report_bytes, bytes_of, report, reporting};
+ghost use Rattle.waits.specs.Report.{report_bytes, bytes_of, report};
 ghost use Rattle.waits.specs.Code.{common_mask, all_read};
-ghost use Rattle.waits.specs.Promises.{laid, Judges};
+ghost use Rattle.waits.specs.Promises.{laid};
 
-use crate::counts::reader_mask;
-use crate::tables::{Judged, Waits};
+use crate::counts::is_read;
+use crate::intent::lock_of;
+use crate::tables::Waits;
 use graph::Path;
-use sets::locks;
+use sets::Set;
 
 // Returns true if every lock of the set has a reader.
 fn all_read(counts: &[u8; Waits::COUNTS], common: u64) -> bool
     ensures { result ≡ all_read counts.now (upward LOCKS common) }
 {
-    let mut left = common;
-    while left != 0 {
-        let l = locks::lowest(left);
-        let m = reader_mask(counts, l);
-        if m == 0 {
-            return false;
-        }
-        left = locks::rest(left);
-    }
-    true
+    common.upward().all(|l| is_read(counts, l))
 }
 
 impl Waits {
     // Returns the locks that are in the holds of every thread of the cycle.
-    fn common_holds(self, cycle: Path) -> u64
-        requires { Fit cycle }
-        ensures { result ≡ common_mask self.thread_holds 18446744073709551615 (list_of cycle) }
+    fn common_holds(&self, cycle: &Path) -> u64
+        ensures { result ≡ common_mask self.now.thread_holds 18446744073709551615 cycle.now }
     {
-        let n = cycle.len;
-        let mut intersection = 0xFFFF_FFFF_FFFF_FFFFu64;
-        let mut i = 0;
-        while i < n {
-            let t = cycle.threads[i] as usize;
-            intersection = intersection & self.thread_holds[t];
-            i += 1;
+        let mut intersection = u64::MAX;
+        for &t in cycle.threads() {
+            intersection &= self.thread_holds[usize::from(t)];
         }
         intersection
     }
 
     // Returns true if the cycle passes the filter: every lock that each of its threads holds has a reader.
     pub(crate) fn filter_cycle_by_common_locks(
-        self,
+        &self,
         counts: &[u8; Waits::COUNTS],
-        cycle: Path,
+        cycle: &Path,
     ) -> bool
-        requires { Fit cycle }
-        ensures { result ≡ passes counts.now self (list_of cycle) }
+        ensures { result ≡ passes counts.now self.now cycle.now }
     {
-        let common = self.common_holds(cycle);
-        all_read(counts, common)
+        all_read(counts, self.common_holds(cycle))
     }
 
     // Writes the report of the cycle from the place `from` on: the number of its entries, then for each thread an entry
     // with the thread and the lock it awaits. Returns the place after the report.
-    fn write_report(self, cycle: Path, buf: &mut [u8], from: usize) -> usize
-        requires { Fit cycle × (from + report_bytes ≤ length buf.old) }
-        ensures { (buf.new ≡ laid buf.old from (bytes_of (report self (list_of cycle)))) × (result ≡ from + 1 + entry_bytes * cycle.len) }
+    pub fn report(&self, cycle: &Path, buf: &mut [u8], from: usize) -> usize
+        requires { from + report_bytes ≤ length buf.old }
+        ensures bytes { buf.new ≡ laid buf.old from (bytes_of (report self.now cycle.now)) }
+        ensures used { result ≡ from + length (bytes_of (report self.now cycle.now)) }
+        ensures room { length (bytes_of (report self.now cycle.now)) ≤ report_bytes }
     {
-        let n = cycle.len;
-        buf[from] = n as u8;
+        let threads = cycle.threads();
+        buf[from] = threads.len() as u8;
         let mut at = from + 1;
-        let mut i = 0;
-        while i < n {
-            let t = cycle.threads[i];
-            let x = t as usize;
-            let slot = self.thread_waits_for[x];
-            let l = slot.lock();
+        for &t in threads {
             buf[at] = t;
-            buf[at + 1] = l;
+            buf[at + 1] = lock_of(self.thread_waits_for[usize::from(t)]);
             at += Waits::ENTRY_BYTES;
-            i += 1;
         }
         at
-    }
-
-    // Reports the cycle from the place `from` on, and returns these tables with one report.
-    pub(crate) fn report(self, cycle: Path, buf: &mut [u8], from: usize) -> Judged
-        requires { InRange self × Fit cycle × (from + report_bytes ≤ length buf.old) }
-        ensures { Judges result buf.old buf.new from (reporting self (list_of cycle)) }
-    {
-        let used = self.write_report(cycle, buf, from);
-        Judged {
-            waits: self,
-            reports: 1,
-            used,
-        }
     }
 }

@@ -17,28 +17,9 @@ pub struct WaitIntent {
     pub mode: WaitMode,
 }
 
-// The intent of a thread, or Nothing if it waits for no lock.
-#[derive(Clone, Copy)]
-pub enum Awaits {
-    Nothing,
-    For(WaitIntent),
-}
-
-// Holds the intent of one thread in the table of intents. If there is none, it holds no lock number either.
-#[derive(Clone, Copy)]
-pub struct Slot {
-    pub awaits: Awaits,
-}
-
-impl Slot {
-    // Returns the lock that the intent names, or 0 if there is none. A report has it in the thread's entry.
-    pub fn lock(self) -> u8
-        ensures { result ≡ lock_of self.awaits }
-    {
-        let awaits = self.awaits;
-        let Awaits::For(i) = awaits else {
-            return 0;
-        };
-        i.lock_id
-    }
+// Returns the lock that an intent names, or 0 if there is none. A report has it in the thread's entry.
+pub fn lock_of(intent: Option<WaitIntent>) -> u8
+    ensures { result ≡ lock_of intent }
+{
+    intent.map_or(0, |i| i.lock_id)
 }

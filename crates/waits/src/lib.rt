@@ -9,7 +9,7 @@ mod outcome;
 mod tables;
 mod wait;
 
-pub use counts::{counted_down, counted_up, no_readers, place};
-pub use intent::{Awaits, Slot, WaitIntent, WaitMode};
+pub use counts::{count_down, count_up, no_readers, place};
+pub use intent::{WaitIntent, WaitMode, lock_of};
 pub use outcome::{Outcome, Tried};
-pub use tables::{Judged, Linked, Owners, Waits};
+pub use tables::{Owners, Waits};

@@ -1,9 +1,10 @@
-// The tables that every event may change, and what the rules hand back.
+// The tables that every event may change.
 ghost use Rattle.std.specs.Prelude.{◌≡◌};
 ghost use Rattle.waits.specs.Tables.{empty};
+ghost use Rattle.waits.specs.Code.{named};
 
-use crate::intent::{Awaits, Slot};
-use graph::{Sought, WaitForGraph};
+use crate::intent::WaitIntent;
+use graph::WaitForGraph;
 use sets::{LOCKS, NOBODY, THREADS};
 
 // Holds the graph, each thread's intent, each lock's waiters, each thread's holds, and each lock's owner and writer,
@@ -11,33 +12,26 @@ use sets::{LOCKS, NOBODY, THREADS};
 #[derive(Clone, Copy)]
 pub struct Waits {
     pub wait_for_graph: WaitForGraph,
-    pub thread_waits_for: [Slot; THREADS],
+    pub thread_waits_for: [Option<WaitIntent>; THREADS],
     pub lock_waiters: [u32; LOCKS],
     pub thread_holds: [u64; THREADS],
     pub mutex_owners: [u8; LOCKS],
     pub rwlock_writer: [u8; LOCKS],
 }
 
-// The owners that block an intent, in order: the readers upward, then `last`, which is nobody if there is no other.
-#[derive(Drop)]
+// The owners that block an intent, in order: the readers upward, then `last`, if there is another.
+#[derive(Clone, Copy)]
 pub struct Owners {
     pub readers: u32,
-    pub last: usize,
+    pub last: Option<usize>,
 }
 
-// The tables after registering or refreshing, and the first path found.
-#[derive(Drop)]
-pub struct Linked {
-    pub waits: Waits,
-    pub sought: Sought,
-}
-
-// The tables after a path was judged, the number of reports, and the place after them in the buffer.
-#[derive(Drop)]
-pub struct Judged {
-    pub waits: Waits,
-    pub reports: usize,
-    pub used: usize,
+// Returns the thread that a table of owners or writers names, or None for nobody.
+pub(crate) fn owner(byte: u8) -> Option<usize>
+    ensures { result ≡ named byte }
+{
+    let thread = usize::from(byte);
+    (thread < THREADS).then_some(thread)
 }
 
 impl Waits {
@@ -54,14 +48,11 @@ impl Waits {
     pub fn new() -> Waits
         ensures { result ≡ empty }
     {
-        let wait_for_graph = WaitForGraph::new();
         Waits {
-            wait_for_graph,
-            thread_waits_for: [Slot {
-                awaits: Awaits::Nothing,
-            }; THREADS],
-            lock_waiters: [0u32; LOCKS],
-            thread_holds: [0u64; THREADS],
+            wait_for_graph: WaitForGraph::new(),
+            thread_waits_for: [None; THREADS],
+            lock_waiters: [0; LOCKS],
+            thread_holds: [0; THREADS],
             mutex_owners: [Waits::NOBODY; LOCKS],
             rwlock_writer: [Waits::NOBODY; LOCKS],
         }

@@ -1,3 +1,4 @@
+use mathlib.Core.Path.{sym, ◌∙◌}
 use Rattle.guarded.specs.Promises.{run_test}
 use borrow.Author.Rules.{rules}
 use mathlib.Core.Bool.{false≢true}
@@ -25,6 +26,6 @@ returns-then-carry-eq-CARRY_BYTES c =
       λ e. record { valid = c.is_valid.ensures.1 e; lines = a; have = h; long = n },
     )
 
-pub returns : goal.returns
+pub returns-else-carry-eq-CARRY_BYTES : goal.returns-else-carry-eq-CARRY_BYTES
 unfolding run_test
-returns c = (rw (le-ltb _ _ c.if-run-gt-LIMIT.false, le-ltb _ _ c.if-run-gt-CARRY_BYTES.false, ne_eqb _ _ c.if-carry-eq-CARRY_BYTES.false), λ e. absurd (false≢true e))
+returns-else-carry-eq-CARRY_BYTES c = (rw (le-ltb _ _ c.if-run-gt-LIMIT.false, le-ltb _ _ c.if-run-gt-CARRY_BYTES.false, ne_eqb _ _ c.if-carry-eq-CARRY_BYTES.false), λ e. absurd (false≢true (sym (ne_eqb _ _ c.if-carry-eq-CARRY_BYTES.false) ∙ e)))

@@ -1,3 +1,4 @@
+use mathlib.Core.Path.{sym, ◌∙◌}
 use Rattle.guarded.specs.Promises.{end_test}
 use mathlib.Core.Logic.{inl, inr}
 use borrow.Author.Rules.{rules}
@@ -40,6 +41,6 @@ returns-then-run-eq-LIMIT c =
       λ e. record { kept = c.is_run-then-run-eq-LIMIT.ensures.1 e; closed = inr n; place = omega (arith, p, q) },
     )
 
-pub returns : goal.returns
+pub returns-else-run-eq-LIMIT : goal.returns-else-run-eq-LIMIT
 unfolding end_test
-returns c = (rw (le-ltb _ _ c.if-out-at.false, le-ltb _ _ c.if-out-at-lt-END_BYTES.false, ne_eqb _ _ c.if-run-eq0.false, ne_eqb _ _ c.if-run-eq-LIMIT.false), λ e. absurd (false≢true e))
+returns-else-run-eq-LIMIT c = (rw (le-ltb _ _ c.if-out-at.false, le-ltb _ _ c.if-out-at-lt-END_BYTES.false, ne_eqb _ _ c.if-run-eq0.false, ne_eqb _ _ c.if-run-eq-LIMIT.false), λ e. absurd (false≢true (sym (ne_eqb _ _ c.if-run-eq-LIMIT.false) ∙ e)))

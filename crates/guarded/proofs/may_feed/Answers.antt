@@ -1,3 +1,4 @@
+use mathlib.Core.Path.{sym, ◌∙◌}
 use Rattle.guarded.specs.Promises.{feed_test}
 use borrow.Author.Rules.{rules}
 use mathlib.Core.Bool.{false≢true}
@@ -25,6 +26,6 @@ returns-then-buf-eq-BUFFER_BYTES c =
       λ e. record { kept = c.is_run.ensures.1 e; start = f; place = a; reports = n },
     )
 
-pub returns : goal.returns
+pub returns-else-buf-eq-BUFFER_BYTES : goal.returns-else-buf-eq-BUFFER_BYTES
 unfolding feed_test
-returns c = (rw (le-ltb _ _ c.if-chunk-from.false, le-ltb _ _ c.if-out-at.false, ne_eqb _ _ c.if-buf-eq-BUFFER_BYTES.false), λ e. absurd (false≢true e))
+returns-else-buf-eq-BUFFER_BYTES c = (rw (le-ltb _ _ c.if-chunk-from.false, le-ltb _ _ c.if-out-at.false, ne_eqb _ _ c.if-buf-eq-BUFFER_BYTES.false), λ e. absurd (false≢true (sym (ne_eqb _ _ c.if-buf-eq-BUFFER_BYTES.false) ∙ e)))

@@ -12,9 +12,9 @@ returns-in_default c = rw (answer_no _ _ _ _ c.in_default.is) c.put_reply-a.ensu
 
 pub put_cycles-requires : goal.put_cycles-requires
 put_cycles-requires c = record {
-  inside = rw c.in-Reports.is at c.requires.inside;
-  room = room_then c.put_reply-a.ensures (rw (answer_ok _ _ _ _ c.in-Reports.is) at c.requires.room);
+  inside = rw c.in-Ok.is at c.requires.inside;
+  room = room_then c.put_reply-a.ensures (rw (answer_ok _ _ _ _ c.in-Ok.is) at c.requires.room);
 }
 
 pub returns : goal.returns
-returns c = rw (answer_ok _ _ _ _ c.in-Reports.is) (then c.put_reply-a.ensures c.put_cycles.ensures)
+returns c = rw (answer_ok _ _ _ _ c.in-Ok.is) (then c.put_reply-a.ensures c.put_cycles.ensures)

@@ -6,17 +6,18 @@ use Prim.Native.Nat.{ℕ, suc, ◌<◌}
 use native.Mathlib.Omega.{arith}
 use lib.Dec.{ltb}
 use Rattle.detector.proofs.refusal.outside.Goals as goal
+use Rattle.detector.proofs.refusal.outside.Goals.{then-t-ge-THREADS-via-then-t-ge-THREADS, then-t-ge-THREADS-via-else-t-ge-THREADS+then-h-ge-THREADS}
 
 within : (m n : ℕ) → n < suc m → ltb m n ≡ false
 within m n h = le-ltb m n (omega (arith, h))
 
 pub returns-then-t-ge-THREADS : goal.returns-then-t-ge-THREADS
 unfolding outside
-returns-then-t-ge-THREADS c = rw (lt-ltb 31 _ c.if-t-ge-THREADS.true)
-
-pub returns-then-h-ge-THREADS : goal.returns-then-h-ge-THREADS
-unfolding outside
-returns-then-h-ge-THREADS c = rw (within 31 _ c.if-t-ge-THREADS.false, lt-ltb 31 _ c.if-h-ge-THREADS.true)
+returns-then-t-ge-THREADS c =
+    elim c.then-t-ge-THREADS.branch [
+      | then-t-ge-THREADS-via-then-t-ge-THREADS w ↦ rw (lt-ltb 31 _ w.if-t-ge-THREADS.true)
+      | then-t-ge-THREADS-via-else-t-ge-THREADS+then-h-ge-THREADS w ↦ rw (within 31 _ w.if-t-ge-THREADS.false, lt-ltb 31 _ w.if-h-ge-THREADS.true)
+    ]
 
 pub returns-then-l-ge-LOCKS : goal.returns-then-l-ge-LOCKS
 unfolding outside

@@ -1,35 +1,15 @@
-use Rattle.detector.proofs.StuckLaws.{those_none, those_more, those_not}
-use mathlib.Core.Path.{◌≡◌, sym, ◌∙◌}
-use native.Mathlib.Omega.{arith}
+use lib.ListN.{length}
+use mathlib.Core.Path.{refl, ap, ◌∙◌}
+use borrow.Author.Rules.{rules}
+use borrow.Author.Tests.{tests}
+use Rattle.std.proofs.lemmas.Iterator.{YieldsList-from_range}
+use Rattle.std.proofs.lemmas.Iterator.Consumers.{count_from_yields_List, YieldsList-from_filter}
+use Rattle.sets.proofs.Below.{those_range}
+use Rattle.detector.specs.Stuck.{stuck_in}
 use Rattle.detector.proofs.stuck.count_stuck.Goals as goal
-use Rattle.detector.proofs.stuck.count_stuck.Goals.{then-is_stuck, else-is_stuck}
-
-pub loop-t-init : goal.loop-t-init
-loop-t-init c = (omega arith, omega arith, those_none _)
-
-pub is_stuck-requires : goal.is_stuck-requires
-is_stuck-requires c = omega arith
-
-pub overflow_add-n : goal.overflow_add-n
-overflow_add-n c = omega arith
-
-pub overflow_add-t : goal.overflow_add-t
-overflow_add-t c = omega arith
-
-pub loop-t-smaller : goal.loop-t-smaller
-loop-t-smaller c = omega arith
-
-pub loop-t-preserved : goal.loop-t-preserved
-loop-t-preserved c =
-    let l = c.loop-t in
-    let e = c.is_stuck.ensures in (
-      omega arith,
-      elim c.if-is_stuck.branch [ then-is_stuck w ↦ rw w.n-is (omega arith) | else-is_stuck w ↦ rw w.n-is (omega arith) ],
-      elim c.if-is_stuck.branch [
-        | then-is_stuck w ↦ w.n-is ∙ rw l.invariant.2 (those_more _ _ (sym e ∙ w.if-is_stuck.true))
-        | else-is_stuck w ↦ w.n-is ∙ l.invariant.2 ∙ those_not _ _ (sym e ∙ w.if-is_stuck.false)
-      ],
-    )
 
 pub returns : goal.returns
-returns c = let z : c.loop-t.t ≡ 32 = omega arith in rw z at c.loop-t.invariant.2
+returns c =
+    let test = stuck_in c.args.rows.now in
+    count_from_yields_List c.filter.result _ c.count.ensures.ran (YieldsList-from_filter _ test (YieldsList-from_range 0 32 32 c.filter.ensures.source refl) c.filter.ensures.closure (λ x b q k. search (rules, tests)))
+    ∙ ap length (those_range test 32)

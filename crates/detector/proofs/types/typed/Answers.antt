@@ -15,15 +15,6 @@ use Rattle.detector.proofs.types.typed.Goals as goal
 table : (l : List ℕ) (n max : ℕ) (w : Width) → 2 ^ bits w ≤ max → length l ≡ n → ((i : ℕ) → Fits w (get_or l i 0)) → Table l n max
 table l n max w h e f = record { long = e; small = λ i. omega (arith, (f i).fits, h) }
 
-pub intents-requires : goal.intents-requires
-intents-requires c = search rules
-
-pub queues-requires : goal.queues-requires
-queues-requires c = search rules
-
-pub cv_waits-requires : goal.cv_waits-requires
-cv_waits-requires c = search rules
-
 pub returns : goal.returns
 returns c =
     let d = c.args.d in

@@ -1,50 +1,24 @@
-use Rattle.sets.proofs.Below.{every_more, every_not}
-use Rattle.sets.specs.Below.{every}
-use native.Mathlib.Numerals.{add-one}
-use mathlib.Core.Path.{◌≡◌, refl, sym, ◌∙◌}
-use native.Mathlib.Omega.{arith}
+use mathlib.Core.Bool.{Bool, true, false, beq}
+use mathlib.Core.Path.{◌≡◌, refl, ◌∙◌}
+use borrow.Author.Rules.{rules}
+use borrow.Author.Tests.{tests}
+use Rattle.std.proofs.lemmas.Iterator.{YieldsList-from_range}
+use Rattle.std.proofs.lemmas.Iterator.Search.{all_from_yields_List}
+use Rattle.sets.proofs.Below.{every_range}
+use Rattle.sets.specs.Sets.{has}
+use Rattle.graph.specs.Graph.{agree, mirror_at}
+use Rattle.graph.specs.Search.{row}
 use Rattle.graph.proofs.mirror.row_mirrors.Goals as goal
 
-pub loop-b-init : goal.loop-b-init
-unfolding every
-loop-b-init c = (omega arith, refl)
-
-pub has-requires : goal.has-requires
-has-requires c = omega arith
-
-pub offset_bounds-incoming-b : goal.offset_bounds-incoming-b
-offset_bounds-incoming-b c = omega arith
-
-pub bounds-incoming-b : goal.bounds-incoming-b
-bounds-incoming-b c = omega arith
-
-pub has-requires-in-loop-b : goal.has-requires-in-loop-b
-has-requires-in-loop-b c = omega arith
-
-pub agree-requires : goal.agree-requires
-agree-requires c = omega arith
-
-pub overflow_add-b : goal.overflow_add-b
-overflow_add-b c = omega arith
-
-pub loop-b-smaller : goal.loop-b-smaller
-loop-b-smaller c = omega arith
-
-pub loop-b-preserved : goal.loop-b-preserved
-loop-b-preserved c =
-    let l = c.loop-b.invariant in (
-      omega arith,
-      rw add-one
-          (every_more _ _ l.1
-          (rw (← c.has.ensures, ← c.has-in-loop-b.ensures) (sym c.agree.ensures ∙ c.if-agree.true))),
-    )
-
-pub returns-else-agree : goal.returns-else-agree
-returns-else-agree c =
-    sym (every_not _ 32 c.loop-b.b (omega arith)
-    (rw (← c.has.ensures, ← c.has-in-loop-b.ensures) (sym c.agree.ensures ∙ c.if-agree.false)))
+-- The test with `==` says whether the two agree.
+same : (x y : Bool) → beq x y ≡ agree x y
+same true true = refl
+same true false = refl
+same false true = refl
+same false false = refl
 
 pub returns : goal.returns
 returns c =
-    let z : c.loop-b.b ≡ 32 = omega arith in
-    sym (rw z at c.loop-b.invariant.1)
+    let test = mirror_at c.args.row c.args.incoming.now c.args.a in
+    all_from_yields_List test _ _ c.all.result c.all.ensures.ran (YieldsList-from_range 0 32 32 refl refl) (λ x b q k. let h : (q ≡ _) × (b ≡ beq (has c.args.row x) (has (row c.args.incoming.now x) c.args.a)) = search (rules, tests) in (h.0, h.1 ∙ same _ _))
+    ∙ every_range test 32

@@ -1,70 +1,41 @@
-use Rattle.graph.proofs.Trails.{count_le, met_of, on_of, none_of, start_idle}
-use Rattle.graph.specs.Code.{sought_of}
-use Rattle.graph.specs.Search.{find_path}
-use mathlib.Core.Path.{sym, ap, ◌∙◌}
-use Prim.Native.Nat.{◌-◌}
+use mathlib.Core.Path.{◌≡◌, sym, ap, ◌∙◌}
+use Prim.Native.Nat.{◌-◌, suc}
+use native.Mathlib.Numerals.{add-one}
 use native.Mathlib.Omega.{arith}
+use Rattle.std.specs.Prelude.{Some}
+use Rattle.graph.proofs.Trails.{start_idle, turn_met, turn_on, turn_end}
+use Rattle.graph.specs.Search.{search, find_path}
 use Rattle.graph.proofs.search.find_path.Goals as goal
 
-pub offset_bounds-edges-start : goal.offset_bounds-edges-start
-offset_bounds-edges-start c = omega arith
-
-pub bounds-edges-start : goal.bounds-edges-start
-bounds-edges-start c = omega arith
-
-pub missing-requires : goal.missing-requires
-missing-requires c = omega arith
-
 pub returns-then-start-target : goal.returns-then-start-target
-returns-then-start-target c = c.missing.ensures ∙ ap sought_of (sym (start_idle _ _ _ c.if-edges-start-eq0.true c.if-start-target.true))
-
-pub begun-s-requires : goal.begun-s-requires
-begun-s-requires c = omega arith
+returns-then-start-target c = sym (start_idle _ _ _ c.if-edges-start-eq0.true c.if-start-target.true)
 
 pub loop-p-init : goal.loop-p-init
 unfolding find_path
-loop-p-init c = let b = c.begun-s.ensures in (b.1, omega arith, rw b.0)
+loop-p-init c = rw c.begin-search.ensures
 
-pub bounds-s-p : goal.bounds-s-p
-bounds-s-p c = omega (arith, count_le _ c.loop-p.invariant.0)
-
-pub found-requires : goal.found-requires
-found-requires c = (c.loop-p.invariant.0, omega arith)
+pub returns-in_err-current : goal.returns-in_err-current
+returns-in_err-current c =
+    c.from_residual.ensures
+    ∙ sym (turn_end (32 - c.loop-p.p) _ _ _ _ (sym c.thread.ensures.0 ∙ c.in_err-current.was))
+    ∙ c.loop-p.invariant
 
 pub returns-then-current-target : goal.returns-then-current-target
 returns-then-current-target c =
     let l = c.loop-p in
-    c.found.ensures
-    ∙ ap sought_of (sym (met_of _ _ l.p l.s l.invariant.0 (omega arith) c.if-current-target.true) ∙ l.invariant.2)
-
-pub offset_bounds-edges-current : goal.offset_bounds-edges-current
-offset_bounds-edges-current c = let l = c.loop-p in omega (arith, l.invariant.0.small l.p (omega arith))
-
-pub bounds-edges-current : goal.bounds-edges-current
-bounds-edges-current c = let l = c.loop-p in l.invariant.0.small l.p (omega arith)
-
-pub expand-s-requires : goal.expand-s-requires
-expand-s-requires c = (c.loop-p.invariant.0, omega arith)
-
-pub overflow_add-p : goal.overflow_add-p
-overflow_add-p c = omega (arith, count_le _ c.loop-p.invariant.0)
-
-pub loop-p-smaller : goal.loop-p-smaller
-loop-p-smaller c = omega (arith, count_le _ c.loop-p.invariant.0)
+    let f : 32 - l.p ≡ suc (31 - l.p) = omega arith in
+    ap Some c.path_to.ensures
+    ∙ sym (turn_met (31 - l.p) _ _ _ _ _ (sym c.thread.ensures.0 ∙ c.in_ok-current.was) c.if-current-target.true)
+    ∙ (rw f at l.invariant)
 
 pub loop-p-preserved : goal.loop-p-preserved
 loop-p-preserved c =
     let l = c.loop-p in
-    let e = c.expand-s.ensures in (
-      e.1,
-      omega arith,
-      rw e.0 (sym (on_of _ _ l.p l.s l.invariant.0 (omega arith) c.if-current-target.false) ∙ l.invariant.2),
-    )
-
-pub missing-requires-2 : goal.missing-requires-2
-missing-requires-2 c = omega arith
+    let f : 32 - l.p ≡ suc (32 - suc l.p) = omega arith in
+    rw (c.expand.ensures, add-one l.p)
+    (sym (turn_on (32 - suc l.p) _ _ _ _ _ (sym c.thread.ensures.0 ∙ c.in_ok-current.was) c.if-current-target.false)
+    ∙ (rw f at l.invariant))
 
 pub returns : goal.returns
-returns c =
-    let l = c.loop-p in
-    c.missing-2.ensures ∙ ap sought_of (sym (none_of _ _ l.p l.s l.invariant.0 (32 - l.p) (omega arith)) ∙ l.invariant.2)
+unfolding search
+returns c = let e : c.loop-p.p ≡ 32 = omega arith in rw e at c.loop-p.invariant

@@ -1,45 +1,29 @@
-use Rattle.sets.proofs.Walk.{fold_step, fold_done}
-use Rattle.graph.specs.Graph.{cut_all}
-use borrow.Author.Rules.{rules}
-use mathlib.Core.Path.{refl, sym, ◌∙◌}
+use mathlib.Core.List.{foldl}
+use mathlib.Core.Path.{sym, ap, ◌∙◌}
+use Rattle.sets.proofs.Walk.{first_lt}
 use native.Mathlib.Omega.{arith}
+use Rattle.graph.specs.Graph.{cut, cut_all}
 use Rattle.graph.proofs.wait_for_graph.cut_all.Goals as goal
 
-pub loop-left-init : goal.loop-left-init
-loop-left-init c = (search rules, refl)
-
-pub lowest-i-requires : goal.lowest-i-requires
-lowest-i-requires c = omega arith
-
-pub offset_bounds-out-i : goal.offset_bounds-out-i
-offset_bounds-out-i c = omega arith
-
-pub bounds-out-i : goal.bounds-out-i
-bounds-out-i c = omega arith
-
-pub without-requires : goal.without-requires
-without-requires c = omega arith
-
-pub offset_bounds-out-i-in-loop-left : goal.offset_bounds-out-i-in-loop-left
-offset_bounds-out-i-in-loop-left c = omega arith
-
-pub bounds-out-i-in-loop-left : goal.bounds-out-i-in-loop-left
-bounds-out-i-in-loop-left c = omega arith
-
-pub rest-left-requires : goal.rest-left-requires
-rest-left-requires c = omega arith
-
-pub loop-left-smaller : goal.loop-left-smaller
-loop-left-smaller c = omega arith
-
-pub loop-left-preserved : goal.loop-left-preserved
+pub loop-i-init : goal.loop-i-init
 unfolding cut_all
-loop-left-preserved c = (
-  omega arith,
-  rw (c.rest-left.ensures.0, c.without.ensures, c.lowest-i.ensures.0)
-      (sym (fold_step _ _ 32 _ (omega arith) (omega arith)) ∙ c.loop-left.invariant.1),
-)
+loop-i-init c = rw (c.into_iter-i-iterator.ensures.into_iter_gives, c.upward-i-items.ensures)
+
+pub offset_bounds-table-i : goal.offset_bounds-table-i
+offset_bounds-table-i c = let l = first_lt _ _ _ _ c.in-Some.ensures.steps in omega arith
+
+pub bounds-table-i : goal.bounds-table-i
+bounds-table-i c = first_lt _ _ _ _ c.in-Some.ensures.steps
+
+pub offset_bounds-table-i-in-loop-i : goal.offset_bounds-table-i-in-loop-i
+offset_bounds-table-i-in-loop-i c = let l = first_lt _ _ _ _ c.in-Some.ensures.steps in omega arith
+
+pub bounds-table-i-in-loop-i : goal.bounds-table-i-in-loop-i
+bounds-table-i-in-loop-i c = first_lt _ _ _ _ c.in-Some.ensures.steps
+
+pub loop-i-preserved : goal.loop-i-preserved
+loop-i-preserved c =
+    rw c.without.ensures (sym (ap (foldl (λ u i. cut u i c.args.t) c.loop-i.table) c.in-Some.ensures.steps) ∙ c.loop-i.invariant)
 
 pub returns : goal.returns
-unfolding cut_all
-returns c = sym (fold_done _ _ 32) ∙ (rw c.loop-left-test.false at c.loop-left.invariant.1)
+returns c = rw c.in-None.ensures.steps.0 at c.loop-i.invariant

@@ -1,10 +1,8 @@
-use Rattle.graph.specs.Graph.{cut_all}
+use mathlib.Core.List.{foldl}
 use mathlib.Core.Path.{◌≡◌}
-use Prim.Native.Nat.{◌<◌, ◌^◌}
+use Rattle.sets.specs.Sets.{upward}
+use Rattle.graph.specs.Graph.{cut, cut_all}
 use Rattle.graph.proofs.wait_for_graph.cut_all.Given as goal
 
-abbrev pub invariant-loop-left : goal.invariant-loop-left
-invariant-loop-left l = (l.left < 2 ^ 32) × (cut_all l.t l.out l.left ≡ cut_all l.t l.initial.out l.m)
-
-abbrev pub decreases-loop-left : goal.decreases-loop-left
-decreases-loop-left l = l.left
+abbrev pub invariant-loop-i : goal.invariant-loop-i
+invariant-loop-i l = foldl (λ u i. cut u i l.t) l.table (upward 32 l.i-iterator.left) ≡ cut_all l.t l.initial.table l.m

@@ -1,36 +1,23 @@
-use Rattle.text.proofs.Puts.{put_length}
-use Rattle.listing.proofs.Items.{partly_none, partly_room, partly_more, partly_all, table_room, close_room, closed, members_more, members_none}
-use borrow.Author.Rules.{rules}
-use mathlib.Core.Path.{refl, ◌∙◌}
-use Prim.Native.Nat.{◌<◌, ◌^◌}
+use Rattle.listing.proofs.Items.{partly_none, partly_room, partly_more, partly_all, table_room, close_room, closed}
+use Rattle.listing.specs.Listing.{members_of}
+use Rattle.text.specs.Decimal.{decimal}
+use mathlib.Core.List.{map}
+use mathlib.Core.Path.{ap}
 use native.Mathlib.Omega.{arith}
 use Rattle.listing.proofs.members.put_members.Goals as goal
 
-pub loop-left-init : goal.loop-left-init
-loop-left-init c = (search rules, partly_none (omega arith) (table_room c.requires), refl)
-
-pub lowest-j-requires : goal.lowest-j-requires
-lowest-j-requires c = search rules
+pub loop-j-init : goal.loop-j-init
+unfolding members_of
+loop-j-init c = rw (c.into_iter-j-iterator.ensures.into_iter_gives, c.upward-j-items.ensures, c.wide.ensures.0) (partly_none (omega arith) (table_room c.requires))
 
 pub put_one-to-requires : goal.put_one-to-requires
-put_one-to-requires c =
-    let h : 0 < c.loop-left.left = omega arith in
-    partly_room c.loop-left.invariant.1 _ (members_more h c.loop-left.invariant.0 c.lowest-j.ensures.0 refl)
+put_one-to-requires c = partly_room c.loop-j.invariant _ (ap (map decimal) c.in-Some.ensures.steps)
 
-pub rest-left-requires : goal.rest-left-requires
-rest-left-requires c = search rules
-
-pub loop-left-smaller : goal.loop-left-smaller
-loop-left-smaller c = search rules
-
-pub loop-left-preserved : goal.loop-left-preserved
-loop-left-preserved c =
-    let h : 0 < c.loop-left.left = omega arith in
-    let k : c.rest-left.result < 2 ^ 64 = omega (arith, c.rest-left.ensures.1) in
-    (k, partly_more c.loop-left.invariant.1 (members_more h c.loop-left.invariant.0 c.lowest-j.ensures.0 c.rest-left.ensures.0) c.put_one-to.ensures, put_length c.put_one-to.ensures.put ∙ c.loop-left.invariant.2)
+pub loop-j-preserved : goal.loop-j-preserved
+loop-j-preserved c = partly_more c.loop-j.invariant (ap (map decimal) c.in-Some.ensures.steps) c.put_one-to.ensures
 
 pub put_close-requires : goal.put_close-requires
-put_close-requires c = close_room (partly_all (c.loop-left.invariant.1) (members_none _ (c.loop-left-test.false))) c.requires
+put_close-requires c = close_room (partly_all c.loop-j.invariant (ap (map decimal) c.in-None.ensures.steps.0)) c.requires
 
 pub returns : goal.returns
-returns c = closed (partly_all (c.loop-left.invariant.1) (members_none _ (c.loop-left-test.false))) (c.put_close.ensures)
+returns c = closed (partly_all c.loop-j.invariant (ap (map decimal) c.in-None.ensures.steps.0)) c.put_close.ensures

@@ -1,12 +1,8 @@
+use Rattle.sets.specs.Sets.{upward}
 use Rattle.listing.proofs.Items.{Partly}
-use Rattle.listing.specs.Listing.{set_items}
-use mathlib.Core.Path.{◌≡◌}
-use Prim.Native.Nat.{◌<◌, ◌^◌}
-use lib.ListN.{length}
+use Rattle.listing.specs.Listing.{two, set_items}
+use mathlib.Core.List.{map}
 use Rattle.listing.proofs.members.put_set.Given as goal
 
-abbrev pub invariant-loop-left : goal.invariant-loop-left
-invariant-loop-left l = (l.left < 2 ^ 64) × Partly l.start l.name (set_items l.sign l.i l.m) (set_items l.sign l.i l.left) l.initial.out l.at l.out l.to × (length l.out ≡ length l.initial.out)
-
-abbrev pub decreases-loop-left : goal.decreases-loop-left
-decreases-loop-left l = l.left
+abbrev pub invariant-loop-j : goal.invariant-loop-j
+invariant-loop-j l = Partly l.start l.name (set_items l.sign l.i l.m) (map (two l.i l.sign) (upward 64 l.j-iterator.left)) l.initial.out l.at l.out l.to

@@ -1,29 +1,21 @@
-use Rattle.listing.proofs.Items.{partly_on, partly_start, partly_room, partly_more, partly_all, table_room, close_room, closed, along_more, along_none}
-use Rattle.listing.specs.Listing.{readers_items}
-use Rattle.text.proofs.Puts.{put_length}
-use borrow.Author.Rules.{rules}
-use mathlib.Core.Path.{refl, ◌∙◌}
+use mathlib.Core.Path.{refl}
 use native.Mathlib.Omega.{arith}
+use Rattle.listing.specs.Listing.{readers_items}
+use Rattle.listing.proofs.Items.{partly_on, partly_start, partly_room, partly_more, partly_all, table_room, close_room, closed, along_more, along_none}
 use Rattle.listing.proofs.rows.put_readers.Goals as goal
 
 pub loop-l-init : goal.loop-l-init
 unfolding readers_items
-loop-l-init c = (search rules, partly_start _ _ refl (omega arith) (table_room c.requires), refl)
+loop-l-init c = partly_start _ _ refl (omega arith) (table_room c.requires)
 
 pub put_readers_of-to-requires : goal.put_readers_of-to-requires
-put_readers_of-to-requires c = (partly_on c.loop-l.invariant.1, c.loop-l-test.true, partly_room c.loop-l.invariant.1 _ (along_more _ _ _ c.loop-l-test.true))
-
-pub overflow_add-l : goal.overflow_add-l
-overflow_add-l c = search rules
-
-pub loop-l-smaller : goal.loop-l-smaller
-loop-l-smaller c = search rules
+put_readers_of-to-requires c = (partly_on c.loop-l.invariant, c.loop-l-test.true, partly_room c.loop-l.invariant _ (along_more _ _ _ c.loop-l-test.true))
 
 pub loop-l-preserved : goal.loop-l-preserved
-loop-l-preserved c = (omega arith, partly_more c.loop-l.invariant.1 (along_more _ _ _ c.loop-l-test.true) c.put_readers_of-to.ensures, put_length c.put_readers_of-to.ensures.put ∙ c.loop-l.invariant.2)
+loop-l-preserved c = partly_more c.loop-l.invariant (along_more _ _ _ c.loop-l-test.true) c.put_readers_of-to.ensures
 
 pub put_close-requires : goal.put_close-requires
-put_close-requires c = close_room (partly_all c.loop-l.invariant.1 (along_none _ _ _ c.loop-l-test.false)) c.requires
+put_close-requires c = close_room (partly_all c.loop-l.invariant (along_none _ _ _ c.loop-l-test.false)) c.requires
 
 pub returns : goal.returns
-returns c = closed (partly_all c.loop-l.invariant.1 (along_none _ _ _ c.loop-l-test.false)) c.put_close.ensures
+returns c = closed (partly_all c.loop-l.invariant (along_none _ _ _ c.loop-l-test.false)) c.put_close.ensures

@@ -3,7 +3,7 @@ use Rattle.transcript.specs.Promises.{Moves}
 use Rattle.runner.proofs.chunks.take_chunk.Given as goal
 
 abbrev pub invariant-loop-i : goal.invariant-loop-i
-invariant-loop-i g l = Moves l.fn.run l.fn.carry l.chunk 0 l.i l.r l.carry
+invariant-loop-i g l = Moves l.initial.run l.initial.buffers.carry l.chunk 0 l.i l.run l.buffers.carry
 
 abbrev pub decreases-loop-i : goal.decreases-loop-i
 decreases-loop-i g l = length l.chunk - l.i

@@ -1,16 +1,9 @@
 use Rattle.runner.proofs.Lines.{whole_part, line_part, rest_part}
-use borrow.Author.Rules.{rules}
 use native.Mathlib.Omega.{arith}
 use Rattle.runner.proofs.part.part_end.Goals as goal
 
 pub returns-then-not-tables : goal.returns-then-not-tables
 returns-then-not-tables c = whole_part _ _ c.if-not-tables.true c.requires
-
-pub up_to-end-requires : goal.up_to-end-requires
-up_to-end-requires c = search rules
-
-pub overflow_add-result : goal.overflow_add-result
-overflow_add-result c = search rules
 
 pub returns-then-end-chunk : goal.returns-then-end-chunk
 returns-then-end-chunk c = line_part c.requires c.up_to-end.ensures.0 c.if-end-chunk.true

@@ -1,31 +1,12 @@
-use borrow.Author.Rules.{rules}
 use mathlib.Core.Path.{sym, ◌∙◌}
 use Rattle.script.proofs.Steps.{one_bad, one_more, one_last}
 use Rattle.script.proofs.line.after_one.Goals as goal
 
-pub field-f-requires : goal.field-f-requires
-field-f-requires c = search rules
-
-pub overflow_add-e : goal.overflow_add-e
-overflow_add-e c = search rules
-
-pub read_number-x-requires : goal.read_number-x-requires
-read_number-x-requires c = search rules
-
-pub returns-in_default : goal.returns-in_default
-returns-in_default c = one_bad _ _ _ _ c.field-f.ensures _ 0 (sym c.read_number-x.ensures ∙ c.in_default.is)
-
-pub overflow_add-e-then-e-line : goal.overflow_add-e-then-e-line
-overflow_add-e-then-e-line c = search rules
-
-pub after_two-requires : goal.after_two-requires
-after_two-requires c = search rules
+pub returns-in_err-b : goal.returns-in_err-b
+returns-in_err-b c = c.from_residual.ensures ∙ one_bad _ _ _ _ c.field-f.ensures _ 0 (sym c.read_number.ensures ∙ c.in_err-b.was)
 
 pub returns-then-e-line : goal.returns-then-e-line
-returns-then-e-line c = c.after_two.ensures ∙ one_more _ _ _ _ c.field-f.ensures _ _ (sym c.read_number-x.ensures ∙ c.in-Is.is) c.if-e-line.true
-
-pub two-requires : goal.two-requires
-two-requires c = search rules
+returns-then-e-line c = c.after_two.ensures ∙ one_more _ _ _ _ c.field-f.ensures _ _ (sym c.read_number.ensures ∙ c.in_ok-b.was) c.if-e-line.true
 
 pub returns : goal.returns
-returns c = c.two.ensures ∙ one_last _ _ _ _ c.field-f.ensures _ _ (sym c.read_number-x.ensures ∙ c.in-Is.is) c.requires c.if-e-line.false
+returns c = c.two.ensures ∙ one_last _ _ _ _ c.field-f.ensures _ _ (sym c.read_number.ensures ∙ c.in_ok-b.was) c.requires c.if-e-line.false

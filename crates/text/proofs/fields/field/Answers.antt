@@ -1,5 +1,4 @@
 use mathlib.Core.List.{List}
-use borrow.Author.Rules.{rules}
 use mathlib.Core.Path.{◌≡◌, ap, ◌∙◌}
 use Prim.Native.Nat.{ℕ, ◌-◌}
 use native.Mathlib.Omega.{arith}
@@ -8,18 +7,6 @@ use Rattle.text.proofs.Cut.{take_up_to}
 use Rattle.text.specs.Bytes.{tab}
 use Rattle.text.specs.Fields.{up_to, field_at}
 use Rattle.text.proofs.fields.field.Goals as goal
-
-pub up_to-e-requires : goal.up_to-e-requires
-up_to-e-requires c = search rules
-
-pub slice_bounds-result-count : goal.slice_bounds-result-count
-slice_bounds-result-count c = search rules
-
-pub slice_bounds-result-start : goal.slice_bounds-result-start
-slice_bounds-result-start c = search rules
-
-pub slice_bounds-result-end : goal.slice_bounds-result-end
-slice_bounds-result-end c = search rules
 
 pub returns : goal.returns
 unfolding field_at

@@ -1,40 +1,26 @@
-use Rattle.waits.proofs.Masks.{nobody_zero, nobody_some, read_stop, read_step, read_end}
+use mathlib.Core.Bool.{not}
+use Prim.Native.Nat.{ℕ, ◌<◌}
+use mathlib.Core.Path.{refl, sym, subst, ◌∙◌}
 use borrow.Author.Rules.{rules}
-use mathlib.Core.Path.{refl, ◌∙◌}
-use native.Mathlib.Omega.{arith}
+use borrow.Author.Tests.{tests}
+use Rattle.std.proofs.lemmas.Iterator.Adapters.{serves_from_places}
+use Rattle.std.proofs.lemmas.Iterator.Consumers.{YieldsList-from_first}
+use Rattle.std.proofs.lemmas.Iterator.Search.{all_from_yields_List}
+use Rattle.sets.specs.Sets.{upward}
+use Rattle.sets.specs.declared.upward.Upward.{Upward}
+use Rattle.sets.proofs.Walk.{upward_at_lt}
+use Rattle.waits.specs.Filter.{nobody_reads}
+use Rattle.waits.proofs.Masks.{read_list}
 use Rattle.waits.proofs.deadlock_handling.all_read.Goals as goal
 
-pub loop-left-init : goal.loop-left-init
-loop-left-init c = (search rules, refl)
-
-pub lowest-l-requires : goal.lowest-l-requires
-lowest-l-requires c = omega arith
-
-pub reader_mask-m-requires : goal.reader_mask-m-requires
-reader_mask-m-requires c = omega arith
-
-pub returns-then-m-eq0 : goal.returns-then-m-eq0
-returns-then-m-eq0 c =
-    let l = c.loop-left in
-    read_stop _ _ (omega arith) l.invariant.0 (rw (← c.lowest-l.ensures.0) (nobody_zero _ _ _ c.reader_mask-m.ensures c.if-m-eq0.true))
-    ∙ l.invariant.1
-
-pub rest-left-requires : goal.rest-left-requires
-rest-left-requires c = omega arith
-
-pub loop-left-smaller : goal.loop-left-smaller
-loop-left-smaller c = omega arith
-
-pub loop-left-preserved : goal.loop-left-preserved
-loop-left-preserved c =
-    let l = c.loop-left in (
-      omega arith,
-      rw c.rest-left.ensures.0
-          (read_step _ _ (omega arith) l.invariant.0
-          (rw (← c.lowest-l.ensures.0)
-          (nobody_some _ _ _ c.reader_mask-m.ensures (omega arith) (omega arith))))
-          ∙ l.invariant.1,
-    )
+pub all-requires-clause-callable : goal.all-requires-clause-callable
+all-requires-clause-callable c =
+    serves_from_places (YieldsList-from_first (λ x. x) (λ (w : Upward ℕ). upward 64 w.left) (upward 64 c.args.common) (rw c.upward.ensures refl))
+    (λ x q k. search (rules, tests)) (λ x k h e. let z : x < 64 = subst (λ (y : ℕ). y < 64) (sym e) (upward_at_lt 64 c.args.common k x h) in search (rules, z))
 
 pub returns : goal.returns
-returns c = read_end _ _ c.loop-left-test.false ∙ c.loop-left.invariant.1
+returns c =
+    let test = λ (l : ℕ). not (nobody_reads c.args.counts.now l) in
+    all_from_yields_List test _ _ c.all.result c.all.ensures.ran
+    (YieldsList-from_first (λ x. x) (λ (w : Upward ℕ). upward 64 w.left) (upward 64 c.args.common) (rw c.upward.ensures refl)) (λ x b q k. search (rules, tests))
+    ∙ read_list c.args.counts.now (upward 64 c.args.common)

@@ -1,24 +1,13 @@
-use Rattle.detector.proofs.Queues.{silent_does, queued_none, cv_wait_forget}
+use Rattle.detector.proofs.Queues.{silent_does, cv_wait_forget}
 use Rattle.detector.specs.Condvar.{destroy_condvar}
-use borrow.Author.Rules.{rules}
-use mathlib.Core.Path.{refl}
+use Rattle.detector.specs.State.{pairs_of}
+use mathlib.Core.Path.{ap}
 use Rattle.detector.proofs.state.Detector.destroy_condvar.Goals as goal
-
-pub empty_queue-requires : goal.empty_queue-requires
-empty_queue-requires c = search rules
-
-pub offset_bounds-condvars-c : goal.offset_bounds-condvars-c
-offset_bounds-condvars-c c = search rules
-
-pub bounds-condvars-c : goal.bounds-condvars-c
-bounds-condvars-c c = search rules
-
-pub forgotten-fewer-requires : goal.forgotten-fewer-requires
-forgotten-fewer-requires c = search rules
 
 pub returns : goal.returns
 unfolding destroy_condvar
-returns c =
+returns c b =
+    let d = c.args.self.now in
     let v = c.requires.0 in
-    λ b. rw (c.empty_queue.ensures, c.forgotten-fewer.ensures)
-    (silent_does _ _ _ _ _ _ _ v queued_none refl (cv_wait_forget _ _ v.cv_waits) v.waits b)
+    rw c.forget.ensures
+    (silent_does d c.args.c _ _ _ d.waits d.cv_woken v c.new.ensures.1 (ap pairs_of c.new.ensures.0) (cv_wait_forget d.condvars.thread_wait_cv c.args.c v.cv_waits) v.waits b)

@@ -1,41 +1,35 @@
-use Rattle.detector.proofs.Validity.{tested_valid, unmapped}
+use Rattle.detector.proofs.Validity.{range_valid, unmapped, valid_last, valid_second, valid_first}
 use Rattle.detector.specs.State.{valid_test}
 use borrow.Author.Rules.{rules}
 use mathlib.Core.Path.{◌≡◌, sym, ◌∙◌}
 use mathlib.Core.Bool.{false≢true}
 use lib.ListN.{length}
 use Rattle.detector.proofs.state.Detector.is_valid.Goals as goal
-
-pub waits_in_range-requires : goal.waits_in_range-requires
-waits_in_range-requires c = search rules
-
-pub queues_valid-requires : goal.queues_valid-requires
-queues_valid-requires c = search rules
-
-pub cv_waits_valid-requires : goal.cv_waits_valid-requires
-cv_waits_valid-requires c = search rules
+use Rattle.detector.proofs.state.Detector.is_valid.Goals.{then-waits_in_range, else-waits_in_range}
 
 pub returns-then-queues_valid : goal.returns-then-queues_valid
-unfolding valid_test
 returns-then-queues_valid c =
-    let a = sym c.waits_in_range.ensures ∙ c.if-waits_in_range.true in
-    let q = c.queues_valid.ensures in
-    let d = c.args.self in
-    let e : c.cv_waits_valid.result ≡ valid_test d = rw (a, sym q.0 ∙ c.if-queues_valid.true) c.cv_waits_valid.ensures in
-    let i : length d.waits.thread_waits_for ≡ 32 = search (rules, unmapped) in
-    let o : length d.waits.mutex_owners ≡ 64 = search (rules, unmapped) in
-    let w : length d.waits.rwlock_writer ≡ 64 = search (rules, unmapped) in
-    let v : length d.condvars.thread_wait_cv ≡ 32 = search (rules, unmapped) in (
-      e,
-      λ r. tested_valid d (record { intents = i; owners = o; writers = w; cv_waits = v; cells = q.1 c.if-queues_valid.true }) (sym e ∙ r),
+    let d = c.args.self.now in
+    let w = c.waits_in_range.ensures in
+    let v : length d.condvars.thread_wait_cv ≡ 32 = search (rules, unmapped) in
+    elim c.if-waits_in_range.branch [
+      | then-waits_in_range b ↦
+          let q = b.queues_valid.ensures in
+          let t = sym b.value-is ∙ c.if-queues_valid.true in
+          let e : c.cv_waits_valid.result ≡ valid_test d = c.cv_waits_valid.ensures ∙ valid_last d v (sym w.0 ∙ b.if-waits_in_range.true) (sym q.0 ∙ t) in
+          (e, λ r. range_valid d (w.1 b.if-waits_in_range.true) (q.1 t) v (sym e ∙ r))
+      | else-waits_in_range b ↦ absurd (false≢true (sym b.if-waits_in_range.false ∙ sym b.value-is ∙ c.if-queues_valid.true))
+    ]
+
+pub returns-else-queues_valid : goal.returns-else-queues_valid
+returns-else-queues_valid c =
+    let d = c.args.self.now in
+    let w = c.waits_in_range.ensures in
+    let f = c.if-queues_valid.false in (
+      f
+          ∙ elim c.if-waits_in_range.branch [
+            | then-waits_in_range b ↦ valid_second d (sym w.0 ∙ b.if-waits_in_range.true) (sym b.queues_valid.ensures.0 ∙ sym b.value-is ∙ f)
+            | else-waits_in_range b ↦ valid_first d (sym w.0 ∙ b.if-waits_in_range.false)
+          ],
+      λ e. absurd (false≢true (sym f ∙ e)),
     )
-
-pub returns-then-waits_in_range : goal.returns-then-waits_in_range
-unfolding valid_test
-returns-then-waits_in_range c =
-    let a = sym c.waits_in_range.ensures ∙ c.if-waits_in_range.true in
-    (rw (a, sym c.queues_valid.ensures.0 ∙ c.if-queues_valid.false), λ e. absurd (false≢true e))
-
-pub returns : goal.returns
-unfolding valid_test
-returns c = (rw (sym c.waits_in_range.ensures ∙ c.if-waits_in_range.false), λ e. absurd (false≢true e))

@@ -1,12 +1,11 @@
-use Rattle.graph.specs.Promises.{Sound}
-use Rattle.graph.specs.Code.{trail_of}
-use Rattle.graph.specs.Search.{expand}
+use mathlib.Core.List.{foldl}
 use mathlib.Core.Path.{◌≡◌}
-use Prim.Native.Nat.{◌<◌, ◌≤◌, ◌^◌}
+use Prim.Native.Nat.{◌<◌}
+use lib.ListN.{length}
+use Rattle.sets.specs.Sets.{upward}
+use Rattle.graph.specs.Search.{visit, expand}
 use Rattle.graph.proofs.search.Search.expand.Given as goal
 
-abbrev pub invariant-loop-left : goal.invariant-loop-left
-invariant-loop-left l = (l.left < 2 ^ 32) × Sound l.s × (l.initial.s.count ≤ l.s.count) × (expand l.p (trail_of l.s) l.left ≡ expand l.p (trail_of l.initial.s) l.m)
-
-abbrev pub decreases-loop-left : goal.decreases-loop-left
-decreases-loop-left l = l.left
+abbrev pub invariant-loop-n : goal.invariant-loop-n
+invariant-loop-n l =
+    (l.p < length l.self.threads) × (foldl (visit l.p) l.self (upward 32 l.n-iterator.left) ≡ expand l.p l.initial.self l.m)

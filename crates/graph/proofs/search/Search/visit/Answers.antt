@@ -1,42 +1,32 @@
-use Rattle.graph.proofs.Trails.{room, push_trail, push_sound}
-use Rattle.graph.specs.Search.{visit}
-use borrow.Author.Rules.{rules}
-use mathlib.Core.Path.{sym, ◌∙◌}
-use native.Mathlib.Omega.{arith}
+use Prim.Native.Nat.{ℕ, ◌<◌}
+use lib.Dec.{lit<}
+use lib.ListN.{length}
+use mathlib.Core.Path.{sym, ◌∙◌, subst}
+use Rattle.std.proofs.lemmas.List.{map-append, length-map}
+use Rattle.graph.proofs.Trails.{room, sound_more}
+use Rattle.graph.specs.Search.{Trail, visit}
 use Rattle.graph.proofs.search.Search.visit.Goals as goal
 
-pub has-requires : goal.has-requires
-has-requires c = search rules
+pub push-requires : goal.push-requires
+push-requires c =
+    let f = sym c.has.ensures ∙ c.if-not-has.true in
+    (lit< tt, subst (λ (n : ℕ). n < 32) (length-map c.self.inside.found.items (λ f. f.thread)) (room _ c.args.n c.args.p c.self.invariant c.requires.0 f))
 
-pub returns-then-has : goal.returns-then-has
+pub invariant_of-self : goal.invariant_of-self
+invariant_of-self c =
+    let f = sym c.has.ensures ∙ c.if-not-has.true in
+    let v = c.self.view_is in
+    rw (c.push.ensures.items, map-append, map-append, c.with-self-inside.ensures)
+    (sound_more _ c.args.n c.args.p c.self.invariant c.requires.0 f (subst (λ (t : Trail). c.args.p < length t.threads) (sym v) c.requires.1))
+
+pub returns-then-not-has : goal.returns-then-not-has
 unfolding visit
-returns-then-has c = (rw (sym c.has.ensures ∙ c.if-has.true), c.requires.0, omega arith)
+returns-then-not-has c =
+    let f = sym c.has.ensures ∙ c.if-not-has.true in
+    rw (← c.self.view_is, c.push.ensures.items, map-append, map-append, c.with-self-inside.ensures, f)
 
-pub overflow_cast-self : goal.overflow_cast-self
-overflow_cast-self c = search rules
-
-pub bounds-self-at : goal.bounds-self-at
-bounds-self-at c = room _ _ 0 c.requires.0 c.requires.1 (sym c.has.ensures ∙ c.if-has.false)
-
-pub overflow_cast-self-2 : goal.overflow_cast-self-2
-overflow_cast-self-2 c = omega (arith, room _ _ 0 c.requires.0 c.requires.1 (sym c.has.ensures ∙ c.if-has.false))
-
-pub bounds-self-at-2 : goal.bounds-self-at-2
-bounds-self-at-2 c = room _ _ 0 c.requires.0 c.requires.1 (sym c.has.ensures ∙ c.if-has.false)
-
-pub overflow_add-self : goal.overflow_add-self
-overflow_add-self c = omega (arith, room _ _ 0 c.requires.0 c.requires.1 (sym c.has.ensures ∙ c.if-has.false))
-
-pub with-requires : goal.with-requires
-with-requires c = search rules
-
-pub returns : goal.returns
-returns c =
-    let a = c.args in
-    let h = c.requires in
-    let f = sym c.has.ensures ∙ c.if-has.false in
-    rw c.with.ensures (
-      push_trail a.self a.n a.p h.0 h.1 f,
-      push_sound a.self a.n a.p h.0 h.1 f h.2,
-      omega arith,
-    )
+pub returns-else-not-has : goal.returns-else-not-has
+unfolding visit
+returns-else-not-has c =
+    let f = sym c.has.ensures ∙ c.if-not-has.false in
+    rw (← c.self.view_is, f)

@@ -1,37 +1,20 @@
+use mathlib.Core.Path.{◌∙◌}
 use Rattle.waits.proofs.Masks.{awaited_step, awaited_end}
-use borrow.Author.Rules.{rules}
-use mathlib.Core.Path.{refl, ◌∙◌}
-use native.Mathlib.Omega.{arith}
+use Rattle.waits.proofs.tables.Waits.awaited.Goals.{in-Some, in_default}
 use Rattle.waits.proofs.tables.Waits.awaited.Goals as goal
 
-pub loop-i-init : goal.loop-i-init
-loop-i-init c = (search rules, refl)
-
-pub bounds-cycle-i : goal.bounds-cycle-i
-bounds-cycle-i c = omega (arith, c.requires.1.long)
-
-pub offset_bounds-self-t : goal.offset_bounds-self-t
-offset_bounds-self-t c = omega (arith, c.requires.1.small c.loop-i.i)
-
-pub bounds-self-t : goal.bounds-self-t
-bounds-self-t c = c.requires.1.small _
-
-pub with_awaited-m-requires : goal.with_awaited-m-requires
-with_awaited-m-requires c = c.requires.0.locks _
-
-pub overflow_add-i : goal.overflow_add-i
-overflow_add-i c = omega (arith, c.requires.1.long)
-
-pub loop-i-smaller : goal.loop-i-smaller
-loop-i-smaller c = omega arith
-
-pub loop-i-preserved : goal.loop-i-preserved
-loop-i-preserved c = (
-  omega arith,
-  rw c.with_awaited-m.ensures
-      (awaited_step _ c.args.cycle.threads _ c.requires.1.cells _ _ c.loop-i-test.true)
-      ∙ c.loop-i.invariant.1,
-)
+pub loop-t-preserved : goal.loop-t-preserved
+loop-t-preserved c =
+    let l = c.loop-t in
+    let s = c.args.self.now in
+    let p = c.threads-t-items.result.now in
+    let step = awaited_step s p l.locks l.t-index c.loop-t-test.true ∙ l.invariant in
+    elim c.match-self-from.branch [
+      | in-Some w ↦ rw (w.locks-is, w.with-locks.ensures, w.from-in-Some.ensures) (rw (← c.from.ensures, w.in-Some.is) at step)
+      | in_default w ↦ rw w.locks-is (rw (← c.from.ensures, w.in_default.is) at step)
+    ]
 
 pub returns : goal.returns
-returns c = awaited_end _ c.args.cycle.threads _ c.requires.1.cells _ _ c.loop-i-test.false ∙ c.loop-i.invariant.1
+returns c =
+    let l = c.loop-t in
+    awaited_end c.args.self.now c.threads-t-items.result.now l.locks l.t-index c.loop-t-test.false ∙ l.invariant

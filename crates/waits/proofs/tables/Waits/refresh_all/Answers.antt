@@ -1,42 +1,28 @@
-use Rattle.waits.proofs.Steps.{refresh_all_c, refresh_all_code}
-use Rattle.sets.proofs.Walk.{fold_step, fold_done}
-use Rattle.sets.specs.Sets.{upward}
-use borrow.Author.Rules.{rules}
-use mathlib.Core.Path.{refl, sym, ◌∙◌}
-use native.Mathlib.Omega.{arith}
+use mathlib.Core.List.{foldl}
+use mathlib.Core.Path.{sym, ap, ◌∙◌}
+use Rattle.sets.proofs.Walk.{first_lt}
+use Rattle.waits.specs.Waiting.{refresh_next, refresh_locks}
+use Rattle.waits.specs.Code.{linked}
+use Rattle.waits.proofs.Steps.{refresh_step}
 use Rattle.waits.proofs.tables.Waits.refresh_all.Goals as goal
 
-pub missing-sought-requires : goal.missing-sought-requires
-missing-sought-requires c = search rules
+pub loop-l-init : goal.loop-l-init
+unfolding refresh_locks
+loop-l-init c = (c.requires, rw (c.into_iter-l-iterator.ensures.into_iter_gives, c.upward-l-items.ensures))
 
-pub loop-left-init : goal.loop-left-init
-loop-left-init c = (search rules, search rules, refl)
+pub refresh_waiters_for_lock-requires : goal.refresh_waiters_for_lock-requires
+refresh_waiters_for_lock-requires c = (first_lt _ _ _ _ c.in-Some.ensures.steps, c.loop-l.invariant.0)
 
-pub lowest-l-requires : goal.lowest-l-requires
-lowest-l-requires c = omega arith
-
-pub refresh_next-k-requires : goal.refresh_next-k-requires
-refresh_next-k-requires c = (omega arith, c.loop-left.invariant.1)
-
-pub rest-left-requires : goal.rest-left-requires
-rest-left-requires c = omega arith
-
-pub loop-left-smaller : goal.loop-left-smaller
-loop-left-smaller c = omega arith
-
-pub loop-left-preserved : goal.loop-left-preserved
-unfolding refresh_all_c
-loop-left-preserved c = (
-  omega arith,
-  c.refresh_next-k.ensures.1,
-  rw (c.rest-left.ensures.0, c.refresh_next-k.ensures.0, c.lowest-l.ensures.0)
-      (sym (fold_step _ _ 64 _ (omega arith) (omega arith)) ∙ c.loop-left.invariant.2),
-)
+pub loop-l-preserved : goal.loop-l-preserved
+loop-l-preserved c =
+    let l = c.loop-l in
+    let r = c.refresh_waiters_for_lock.ensures in (
+      r.1,
+      rw (c.or-found.ensures, refresh_step _ l.self _ l.found _ _ r.0)
+          (sym (ap (foldl (refresh_next c.args.counts.now) (linked l.self l.found)) c.in-Some.ensures.steps) ∙ l.invariant.1),
+    )
 
 pub returns : goal.returns
-unfolding refresh_all_c
 returns c =
-    let a = c.args in
-    let l = c.loop-left in
-    let m = c.missing-sought.ensures in
-    (sym (fold_done _ _ 64) ∙ (rw c.loop-left-test.false at l.invariant.2) ∙ rw m (refresh_all_code _ a.self (upward 64 a.set)), l.invariant.1)
+    let l = c.loop-l in
+    ((rw c.in-None.ensures.steps.0 at l.invariant.1), l.invariant.0)
