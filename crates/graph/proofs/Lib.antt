@@ -1,7 +1,7 @@
 -- Laws of the definitions, and the theorems that follow from them.
 -- The first three files are about what the code keeps.
 pub mod Trails
-pub mod Owners
+pub mod Adding
 pub mod Fits
 -- These have the theorems.
 pub mod Ways

@@ -4,6 +4,7 @@ ghost use Rattle.sets.specs.Limits.{THREADS};
 ghost use Rattle.sets.specs.Sets.{upward};
 ghost use Rattle.graph.specs.Graph.{empty, adding, cut_all, stored, add_edge, remove_edge, clear_wait_edges, remove_thread, add_owners, remove_edges_to};
 
+use crate::owners::Owners;
 use crate::path::Path;
 use crate::search::find_path;
 use sets::{Set, THREADS};
@@ -102,28 +103,28 @@ impl WaitForGraph {
         }
     }
 
-    // Adds an edge from t to each of the owners, upward, then to `last` if there is one. A path does not stop the
-    // owners after it, and the first path is kept.
-    pub fn add_owners(&mut self, t: usize, owners: u32, last: Option<usize>) -> Option<Path>
-        requires { (t < THREADS) × IfSome last (λ o. o < THREADS) }
-        ensures { adding self.new result ≡ add_owners t self.old (upward THREADS owners ++ option_to_list last) }
+    // Adds an edge from t to each of the owners, in order. A path does not stop the owners after it, and the first path
+    // is kept.
+    pub fn add_owners(&mut self, t: usize, owners: Owners) -> Option<Path>
+        requires { (t < THREADS) × IfSome owners.last (λ o. o < THREADS) }
+        ensures { adding self.new result ≡ add_owners t self.old (upward THREADS owners.readers ++ option_to_list owners.last) }
     {
         let mut found = None;
-        for owner in owners.upward() {
+        for owner in owners.readers.upward() {
             found = found.or(self.add_edge(t, owner));
         }
-        if let Some(last) = last {
+        if let Some(last) = owners.last {
             found = found.or(self.add_edge(t, last));
         }
         found
     }
 
     // Drops every edge from t, then adds edges to the owners as `add_owners` does.
-    pub fn relink(&mut self, t: usize, owners: u32, last: Option<usize>) -> Option<Path>
-        requires { (t < THREADS) × IfSome last (λ o. o < THREADS) }
-        ensures { adding self.new result ≡ add_owners t (clear_wait_edges self.old t) (upward THREADS owners ++ option_to_list last) }
+    pub fn relink(&mut self, t: usize, owners: Owners) -> Option<Path>
+        requires { (t < THREADS) × IfSome owners.last (λ o. o < THREADS) }
+        ensures { adding self.new result ≡ add_owners t (clear_wait_edges self.old t) (upward THREADS owners.readers ++ option_to_list owners.last) }
     {
         self.clear_wait_edges(t);
-        self.add_owners(t, owners, last)
+        self.add_owners(t, owners)
     }
 }

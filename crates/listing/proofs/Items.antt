@@ -21,7 +21,26 @@ use Rattle.detector.specs.declared.state.Pair.{Pair}
 use Rattle.detector.specs.declared.state.Queue.{Queue}
 use Rattle.listing.specs.Listing.{table_text, along, below, pair_item, queue_items}
 use Rattle.listing.specs.Code.{line_begun, opening, ending, more}
-use Rattle.listing.specs.Promises.{Roomy, Lists}
+use Rattle.listing.specs.Promises.{Begun, Fits, Grows, Roomy, Lists}
+use Rattle.listing.specs.declared.line.Line.{Line}
+
+-- ---- Texts that are put one after the other
+
+grows_none : {l : Line} → Grows l [] l
+grows_none = record { put = record { bytes = refl; place = omega arith }; same = refl; start = refl; name = refl }
+
+pub grows_then : {l m n : Line} {s t : List ℕ} → Grows l s m → Grows m t n → Grows l (s ++ t) n
+grows_then g h = record { put = then g.put h.put; same = h.same ∙ g.same; start = h.start ∙ g.start; name = h.name ∙ g.name }
+
+pub fits_then : {l m : Line} {s t : List ℕ} → Grows l s m → Fits l (s ++ t) → Fits m t
+fits_then g w = record { room = room_then g.put w.room }
+
+pub fits_first : {l : Line} {s : List ℕ} (t : List ℕ) → Fits l (s ++ t) → Fits l s
+fits_first t w = record { room = room_first t w.room }
+
+-- The caller's buffer is what the line leaves of it.
+pub lent : {d d' e s : List ℕ} {at r : ℕ} → d' ≡ e → Put d at s e r → Put d at s d' r
+lent q p = rw q p
 
 -- ---- What stands before an item, and one item
 
@@ -29,40 +48,33 @@ pub put_none : (d : List ℕ) (at : ℕ) → Put d at [] d at
 put_none d at = record { bytes = refl; place = omega arith }
 
 -- Returns the line's beginning with the tab before the first item.
-abbrev headed : List ℕ → List ℕ
+abbrev pub headed : List ℕ → List ℕ
 headed name = text "table\t" ++ (name ++ text "\t")
 
 new_is : (name : List ℕ) → opening true name ≡ headed name
 unfolding line_begun
 new_is name = append_assoc (text "table\t") name (text "\t")
 
-pub opening_new : {at start : ℕ} {d : List ℕ} (name : List ℕ) → at ≡ start → Room d at (opening (eqb at start) name) → Room d at (headed name)
-opening_new {at} {start} name e w = rw (← new_is name) (rw (eq-eqb at start e) at w)
+pub opening_new : {at start : ℕ} (name : List ℕ) → at ≡ start → opening (eqb at start) name ≡ headed name
+opening_new {at} {start} name e = rw (eq-eqb at start e) (new_is name)
 
-pub opened_new : {at start r : ℕ} {d d' : List ℕ} (name : List ℕ) → at ≡ start → Put d at (headed name) d' r → Put d at (opening (eqb at start) name) d' r
-opened_new {at} {start} {r} name e p = rw (eq-eqb at start e, new_is name) p
-
-pub opening_old : {at start : ℕ} {d : List ℕ} (name : List ℕ) → (at ≡ start → ⊥) → Room d at (opening (eqb at start) name) → Room d at (text "\t")
+pub opening_old : {at start : ℕ} (name : List ℕ) → (at ≡ start → ⊥) → opening (eqb at start) name ≡ text "\t"
 unfolding line_begun
-opening_old {at} {start} name e w = rw (ne_eqb at start e) at w
-
-pub opened_old : {at start r : ℕ} {d d' : List ℕ} (name : List ℕ) → (at ≡ start → ⊥) → Put d at (text "\t") d' r → Put d at (opening (eqb at start) name) d' r
-unfolding line_begun
-opened_old {at} {start} name e p = rw (ne_eqb at start e) p
+opening_old {at} {start} name e = rw (ne_eqb at start e) refl
 
 pub opened : (new : Bool) (name x : List ℕ) → more new name (x ∷ []) ≡ opening new name ++ x
 unfolding more tabbed
 opened new name x = rw append-nil (sym (append_assoc (line_begun new name) (text "\t") x))
 
-pub one_room : {start at : ℕ} {name x d : List ℕ} → Roomy start name (x ∷ []) d at → Room d at (opening (eqb at start) name ++ x)
-one_room {start} {at} {name} {x} h = rw opened at h.room
+pub one_room : {l : Line} {x : List ℕ} → Roomy l (x ∷ []) → Fits l (opening (eqb l.at l.start) l.name.now ++ x)
+one_room h = rw opened at h.fits
 
-pub one_lists : {start at r : ℕ} {name x d d' : List ℕ} → Put d at (opening (eqb at start) name ++ x) d' r → Lists start name (x ∷ []) d at d' r
-one_lists {start} {at} {r} {name} {x} p = record { put = rw opened p }
+pub one_lists : {l m : Line} {x : List ℕ} → Grows l (opening (eqb l.at l.start) l.name.now ++ x) m → Lists l (x ∷ []) m
+one_lists p = record { grows = rw opened p }
 
-pub lists_none : {start at : ℕ} {name d : List ℕ} → Lists start name [] d at d at
+pub lists_none : {l : Line} → Lists l [] l
 unfolding more
-lists_none = record { put = put_none _ _ }
+lists_none = record { grows = grows_none }
 
 -- ---- Items, and others after them
 
@@ -88,44 +100,45 @@ begun_still start at r name [] h e = ap (λ (k : ℕ). eqb k start) (let z : r �
 begun_still start at r name (x ∷ xs) h e =
     ne_eqb r start (λ q. omega (arith, length-append (line_begun (eqb at start) name) (tabbed (x ∷ xs))))
 
-module _ {start at r : ℕ} {name : List ℕ} {xs : List (List ℕ)} {d d' : List ℕ} (h : start ≤ at) (p : Lists start name xs d at d' r) where
-  both : (ys : List (List ℕ)) → more (eqb at start) name (xs ++ ys) ≡ more (eqb at start) name xs ++ more (eqb r start) name ys
-  both ys = more_append (eqb at start) name xs ys ∙ ap (λ (b : Bool). more (eqb at start) name xs ++ more b name ys) (sym (begun_still start at r name xs h p.put.place))
+module _ {l m : Line} {xs : List (List ℕ)} (h : l.start ≤ l.at) (p : Lists l xs m) where
+  both : (ys : List (List ℕ)) → more (eqb l.at l.start) l.name.now (xs ++ ys) ≡ more (eqb l.at l.start) l.name.now xs ++ more (eqb m.at m.start) m.name.now ys
+  both ys =
+      rw (p.grows.start, p.grows.name)
+      (more_append (eqb l.at l.start) l.name.now xs ys ∙ ap (λ (b : Bool). more (eqb l.at l.start) l.name.now xs ++ more b l.name.now ys) (sym (begun_still l.start l.at m.at l.name.now xs h p.grows.put.place)))
 
-  lists_then : {ys : List (List ℕ)} {d'' : List ℕ} {r' : ℕ} → Lists start name ys d' r d'' r' → Lists start name (xs ++ ys) d at d'' r'
-  lists_then {ys} q = record { put = rw (both ys) (then p.put q.put) }
+  lists_then : {ys : List (List ℕ)} {n : Line} → Lists m ys n → Lists l (xs ++ ys) n
+  lists_then {ys} q = record { grows = rw (both ys) (grows_then p.grows q.grows) }
 
-  lists_room : (ys : List (List ℕ)) → Roomy start name (xs ++ ys) d at → Roomy start name ys d' r
-  lists_room ys w = record { room = room_then p.put (rw (both ys) at w.room) }
+  lists_room : (ys : List (List ℕ)) → Roomy l (xs ++ ys) → Roomy m ys
+  lists_room ys w = record { fits = fits_then p.grows (rw (both ys) at w.fits) }
 
-  lists_on : start ≤ r
-  lists_on = omega (arith, p.put.place)
+  lists_on : m.start ≤ m.at
+  lists_on = omega (arith, p.grows.put.place, p.grows.start)
 
-roomy_first : {start at : ℕ} {name : List ℕ} {d : List ℕ} (xs ys : List (List ℕ)) → Roomy start name (xs ++ ys) d at → Roomy start name xs d at
-roomy_first {start} {at} {name} xs ys w = record { room = room_first _ (rw (more_append (eqb at start) name xs ys) at w.room) }
+roomy_first : {l : Line} (xs ys : List (List ℕ)) → Roomy l (xs ++ ys) → Roomy l xs
+roomy_first {l} xs ys w = record { fits = fits_first _ (rw (more_append (eqb l.at l.start) l.name.now xs ys) at w.fits) }
 
 -- ---- A loop over items
 
 -- States that of all the items those in `rest` are still to be put.
-pub record Partly (start : ℕ) (name : List ℕ) (all rest : List (List ℕ)) (d : List ℕ) (at : ℕ) (d' : List ℕ) (r : ℕ) : Type 0 where
+pub record Partly (l : Line) (all rest : List (List ℕ)) (m : Line) : Type 0 where
   pub done : List (List ℕ)
   pub whole : all ≡ done ++ rest
-  pub put : Lists start name done d at d' r
-  pub from : start ≤ at
-  pub room : Roomy start name all d at
+  pub put : Lists l done m
+  pub from : l.start ≤ l.at
+  pub room : Roomy l all
 
-pub partly_none : {start at : ℕ} {name : List ℕ} {all : List (List ℕ)} {d : List ℕ} → start ≤ at → Roomy start name all d at → Partly start name all all d at d at
-unfolding more
-partly_none h w = record { done = []; whole = refl; put = record { put = record { bytes = refl; place = omega arith } }; from = h; room = w }
+pub partly_none : {l : Line} {all : List (List ℕ)} → l.start ≤ l.at → Roomy l all → Partly l all all l
+partly_none h w = record { done = []; whole = refl; put = lists_none; from = h; room = w }
 
-module _ {start at r : ℕ} {name : List ℕ} {all rest : List (List ℕ)} {d d' : List ℕ} (p : Partly start name all rest d at d' r) where
-  pub partly_on : start ≤ r
+module _ {l m : Line} {all rest : List (List ℕ)} (p : Partly l all rest m) where
+  pub partly_on : m.start ≤ m.at
   partly_on = lists_on p.from p.put
 
-  pub partly_room : {part : List (List ℕ)} (rest' : List (List ℕ)) → rest ≡ part ++ rest' → Roomy start name part d' r
+  pub partly_room : {part : List (List ℕ)} (rest' : List (List ℕ)) → rest ≡ part ++ rest' → Roomy m part
   partly_room {part} rest' e = roomy_first part rest' (rw e at (lists_room p.from p.put rest (rw p.whole at p.room)))
 
-  pub partly_more : {part rest' : List (List ℕ)} {d'' : List ℕ} {r' : ℕ} → rest ≡ part ++ rest' → Lists start name part d' r d'' r' → Partly start name all rest' d at d'' r'
+  pub partly_more : {part rest' : List (List ℕ)} {n : Line} → rest ≡ part ++ rest' → Lists m part n → Partly l all rest' n
   partly_more {part} {rest'} e q =
       record {
         done = p.done ++ part;
@@ -135,7 +148,7 @@ module _ {start at r : ℕ} {name : List ℕ} {all rest : List (List ℕ)} {d d'
         room = p.room;
       }
 
-  pub partly_all : rest ≡ [] → Lists start name all d at d' r
+  pub partly_all : rest ≡ [] → Lists l all m
   partly_all e = let h : all ≡ p.done = p.whole ∙ rw (e, append-nil) in rw h p.put
 
 -- ---- A whole line
@@ -145,19 +158,28 @@ unfolding table_text more line_begun tabbed
 whole_line name [] = refl
 whole_line name (x ∷ xs) = simp append_assoc
 
-module _ {at : ℕ} {name : List ℕ} {xs : List (List ℕ)} {d : List ℕ} (w : Room d at (table_text name xs)) where
-  pub table_room : Roomy at name xs d at
-  table_room = record { room = rw (eq-eqb at at refl) (room_first _ (rw (whole_line name xs) at w)) }
+module _ {d : List ℕ} {at : ℕ} {name : List ℕ} {l : Line} (b : Begun d at name l) where
+  pub begun_from : l.start ≤ l.at
+  begun_from = omega (arith, b.start, b.place)
 
-module _ {at r : ℕ} {name : List ℕ} {xs : List (List ℕ)} {d d' : List ℕ} (p : Lists at name xs d at d' r) where
-  closes : more true name xs ++ ending (still true xs) ≡ more (eqb at at) name xs ++ ending (eqb r at)
-  closes = rw (begun_still at at r name xs (omega arith) p.put.place, eq-eqb at at refl)
+  new : eqb l.at l.start ≡ true
+  new = eq-eqb l.at l.start (b.place ∙ sym b.start)
 
-  pub close_room : Room d at (table_text name xs) → Room d' r (ending (eqb r at))
-  close_room w = room_then p.put (rw (whole_line name xs ∙ closes) at w)
+  pub table_room : {xs : List (List ℕ)} → Room d at (table_text name xs) → Roomy l xs
+  table_room {xs} w = record { fits = record { room = rw (new, b.buffer, b.place, b.named) (room_first _ (rw (whole_line name xs) at w)) } }
 
-  pub closed : {d'' : List ℕ} {r' : ℕ} → Put d' r (ending (eqb r at)) d'' r' → Put d at (table_text name xs) d'' r'
-  closed q = rw (whole_line name xs ∙ closes) (then p.put q)
+  module _ {m : Line} {xs : List (List ℕ)} (p : Lists l xs m) where
+    begun_put : Put d at (more true name xs) m.out.now m.at
+    begun_put = rw (new, b.buffer, b.place, b.named) at p.grows.put
+
+    closes : table_text name xs ≡ more true name xs ++ ending (eqb m.at m.start)
+    closes = rw (p.grows.start, begun_still l.start l.at m.at l.name.now xs begun_from p.grows.put.place, new) (whole_line name xs)
+
+    pub close_room : Room d at (table_text name xs) → Fits m (ending (eqb m.at m.start))
+    close_room w = record { room = room_then begun_put (rw closes at w) }
+
+    pub closed : {d' : List ℕ} {r : ℕ} → Put m.out.now m.at (ending (eqb m.at m.start)) d' r → Put d at (table_text name xs) d' r
+    closed q = rw closes (then begun_put q)
 
 -- ---- The items of a table, cell by cell
 
@@ -171,8 +193,7 @@ pub along_none : (f : ℕ → List (List ℕ)) (i n : ℕ) → n ≤ i → along
 unfolding along
 along_none f i n h = let e : n - i ≡ 0 = omega arith in ap (along f i) e
 
-pub partly_start : {start at : ℕ} {name : List ℕ} {all : List (List ℕ)} {d : List ℕ} (f : ℕ → List (List ℕ)) (n : ℕ) → all ≡ below n f → start ≤ at → Roomy start name all d at
-    → Partly start name all (along f 0 (n - 0)) d at d at
+pub partly_start : {l : Line} {all : List (List ℕ)} (f : ℕ → List (List ℕ)) (n : ℕ) → all ≡ below n f → l.start ≤ l.at → Roomy l all → Partly l all (along f 0 (n - 0)) l
 partly_start f n e h w = let z : n - 0 ≡ n = omega arith in rw (z, ← e) (partly_none h w)
 
 -- The set in a cell of a table of sets is the mask of the cell.

@@ -1,99 +1,11 @@
-// This module puts the item of one cell of a table. Nothing is put for an empty cell, and then the place that
-// is returned is the one that came in. The line of the table begins at `start`.
+// This module puts the item of one cell of a table. Nothing is put for an empty cell.
 ghost use Rattle.std.specs.Prelude.{◌≡◌, [], ◌∷◌};
 ghost use Rattle.listing.specs.Listing.{owner_item, reader_item, pair_item, cv_wait_item, mode_text, intent_item};
 ghost use Rattle.listing.specs.Promises.{Roomy, Lists};
 
-use crate::item::{put_three, put_two, put_word};
+use crate::line::Line;
 use detector::{CvWait, Pair};
 use waits::{WaitIntent, WaitMode, Waits};
-
-// Puts the item `lock:thread` of the lock l with the owner or writer o, if it has one, and returns the place after it.
-pub(crate) fn put_owner(
-    out: &mut [u8],
-    start: usize,
-    at: usize,
-    name: &[u8],
-    o: u8,
-    l: usize,
-) -> usize
-    requires { Roomy start name.now (owner_item o l) out.old at }
-    ensures { Lists start name.now (owner_item o l) out.old at out.new result }
-{
-    if o < Waits::NOBODY {
-        return put_two(out, start, at, name, l, b':', usize::from(o));
-    }
-    at
-}
-
-// Puts the item `lock:thread:count` of the thread t that reads the lock l n times, if n is not 0, and returns
-// the place after it.
-pub(crate) fn put_reader(
-    out: &mut [u8],
-    start: usize,
-    at: usize,
-    name: &[u8],
-    t: usize,
-    l: usize,
-    n: u8,
-) -> usize
-    requires { Roomy start name.now (reader_item t l n) out.old at }
-    ensures { Lists start name.now (reader_item t l n) out.old at out.new result }
-{
-    if n == 0 {
-        return at;
-    }
-    put_three(out, start, at, name, l, t, usize::from(n))
-}
-
-// Puts the item `condvar:thread:lock` of a pair in the queue of the condvar c, and returns the place after it.
-pub(crate) fn put_pair(
-    out: &mut [u8],
-    start: usize,
-    at: usize,
-    name: &[u8],
-    c: usize,
-    p: Pair,
-) -> usize
-    requires { Roomy start name.now (pair_item c p ∷ []) out.old at }
-    ensures { Lists start name.now (pair_item c p ∷ []) out.old at out.new result }
-{
-    put_three(
-        out,
-        start,
-        at,
-        name,
-        c,
-        usize::from(p.thread),
-        usize::from(p.lock),
-    )
-}
-
-// Puts the item `thread:condvar:lock` of the cv wait of the thread t, if it has one, and returns the place after it.
-pub(crate) fn put_cv_wait(
-    out: &mut [u8],
-    start: usize,
-    at: usize,
-    name: &[u8],
-    t: usize,
-    v: CvWait,
-) -> usize
-    requires { Roomy start name.now (cv_wait_item t v) out.old at }
-    ensures { Lists start name.now (cv_wait_item t v) out.old at out.new result }
-{
-    if v.condvar == CvWait::NONE {
-        return at;
-    }
-    put_three(
-        out,
-        start,
-        at,
-        name,
-        t,
-        usize::from(v.condvar),
-        usize::from(v.lock),
-    )
-}
 
 // Returns the name of a mode.
 fn mode_name(mode: WaitMode) -> &'static [u8]
@@ -106,28 +18,52 @@ fn mode_name(mode: WaitMode) -> &'static [u8]
     }
 }
 
-// Puts the item `thread:mode:lock` of the intent of the thread t, if it has one, and returns the place after it.
-pub(crate) fn put_intent(
-    out: &mut [u8],
-    start: usize,
-    at: usize,
-    name: &[u8],
-    t: usize,
-    intent: Option<WaitIntent>,
-) -> usize
-    requires { Roomy start name.now (intent_item t intent) out.old at }
-    ensures { Lists start name.now (intent_item t intent) out.old at out.new result }
-{
-    let Some(i) = intent else {
-        return at;
-    };
-    put_word(
-        out,
-        start,
-        at,
-        name,
-        t,
-        mode_name(i.mode),
-        usize::from(i.lock_id),
-    )
+impl<'a> Line<'a> {
+    // Puts the item `lock:thread` of the lock l with the owner or writer o, if it has one.
+    pub(crate) fn owner(&mut self, o: u8, l: usize)
+        requires { Roomy self.old (owner_item o l) }
+        ensures { Lists self.old (owner_item o l) self.new }
+    {
+        if o < Waits::NOBODY {
+            self.two(l, b':', usize::from(o));
+        }
+    }
+
+    // Puts the item `lock:thread:count` of the thread t that reads the lock l n times, if n is not 0.
+    pub(crate) fn reader(&mut self, t: usize, l: usize, n: u8)
+        requires { Roomy self.old (reader_item t l n) }
+        ensures { Lists self.old (reader_item t l n) self.new }
+    {
+        if n != 0 {
+            self.three(l, t, usize::from(n));
+        }
+    }
+
+    // Puts the item `condvar:thread:lock` of a pair in the queue of the condvar c.
+    pub(crate) fn pair(&mut self, c: usize, p: Pair)
+        requires { Roomy self.old (pair_item c p ∷ []) }
+        ensures { Lists self.old (pair_item c p ∷ []) self.new }
+    {
+        self.three(c, usize::from(p.thread), usize::from(p.lock));
+    }
+
+    // Puts the item `thread:condvar:lock` of the cv wait of the thread t, if it has one.
+    pub(crate) fn cv_wait(&mut self, t: usize, v: CvWait)
+        requires { Roomy self.old (cv_wait_item t v) }
+        ensures { Lists self.old (cv_wait_item t v) self.new }
+    {
+        if v.condvar != CvWait::NONE {
+            self.three(t, usize::from(v.condvar), usize::from(v.lock));
+        }
+    }
+
+    // Puts the item `thread:mode:lock` of the intent of the thread t, if it has one.
+    pub(crate) fn intent(&mut self, t: usize, intent: Option<WaitIntent>)
+        requires { Roomy self.old (intent_item t intent) }
+        ensures { Lists self.old (intent_item t intent) self.new }
+    {
+        if let Some(i) = intent {
+            self.word(t, mode_name(i.mode), usize::from(i.lock_id));
+        }
+    }
 }

@@ -2,7 +2,7 @@
 #![tactic(auto)]
 
 mod cell;
-mod item;
+mod line;
 mod members;
 mod rows;
 mod state;

@@ -4,7 +4,7 @@ ghost use Rattle.text.specs.Promises.{Room, Put};
 ghost use Rattle.listing.specs.Listing.{table_text, members_of, set_items, sets_items};
 ghost use Rattle.listing.specs.Promises.{Roomy, Lists};
 
-use crate::item::{put_close, put_one, put_two};
+use crate::line::Line;
 use sets::Set;
 
 // Puts the line of a table that is one set, with its numbers as items, and returns the place after it.
@@ -12,31 +12,23 @@ pub(crate) fn put_members(out: &mut [u8], at: usize, name: &[u8], m: u32) -> usi
     requires { Room out.old at (table_text name.now (members_of m)) }
     ensures { Put out.old at (table_text name.now (members_of m)) out.new result }
 {
-    let mut to = at;
+    let mut line = Line::begin(out, at, name);
     for j in m.wide().upward() {
-        to = put_one(out, at, to, name, j);
+        line.one(j);
     }
-    put_close(out, at, to)
+    line.close()
 }
 
-// Puts an item for each number of the set m in cell i (i, the sign, the number) and returns the place after them.
-fn put_set(
-    out: &mut [u8],
-    start: usize,
-    at: usize,
-    name: &[u8],
-    sign: u8,
-    i: usize,
-    m: u64,
-) -> usize
-    requires { (start ≤ at) × Roomy start name.now (set_items sign i m) out.old at }
-    ensures { Lists start name.now (set_items sign i m) out.old at out.new result }
-{
-    let mut to = at;
-    for j in m.upward() {
-        to = put_two(out, start, to, name, i, sign, j);
+impl<'a> Line<'a> {
+    // Puts an item for each number of the set m in cell i: i, the sign and the number.
+    fn set(&mut self, sign: u8, i: usize, m: u64)
+        requires { (self.old.start ≤ self.old.at) × Roomy self.old (set_items sign i m) }
+        ensures { Lists self.old (set_items sign i m) self.new }
+    {
+        for j in m.upward() {
+            self.two(i, sign, j);
+        }
     }
-    to
 }
 
 // Puts the line of a table with a set in each cell, and returns the place after it.
@@ -50,9 +42,9 @@ pub(crate) fn put_sets<S: Set>(
     requires { Room out.old at (table_text name.now (sets_items sign (map S.mask rows.now))) }
     ensures { Put out.old at (table_text name.now (sets_items sign (map S.mask rows.now))) out.new result }
 {
-    let mut to = at;
+    let mut line = Line::begin(out, at, name);
     for (i, m) in rows.iter().enumerate() {
-        to = put_set(out, at, to, name, sign, i, m.wide());
+        line.set(sign, i, m.wide());
     }
-    put_close(out, at, to)
+    line.close()
 }

@@ -1,5 +1,5 @@
-// This module puts the tables whose cells are no sets. Each function returns the place after the line or the
-// items that it puts.
+// This module puts the tables whose cells are no sets. Each function returns the place after the line that it
+// puts.
 ghost use Rattle.std.specs.Prelude.{map, ◌<◌, ◌≤◌};
 ghost use Rattle.sets.specs.Limits.{LOCKS};
 ghost use Rattle.text.specs.Promises.{Room, Put};
@@ -7,41 +7,43 @@ ghost use Rattle.detector.specs.State.{pairs_of, Queued};
 ghost use Rattle.listing.specs.Listing.{table_text, owners_items, readers_of, readers_items, queue_items, queues_items, cv_waits_items, intents_items};
 ghost use Rattle.listing.specs.Promises.{Roomy, Lists, Queues};
 
-use crate::cell::{put_cv_wait, put_intent, put_owner, put_pair, put_reader};
-use crate::item::put_close;
+use crate::line::Line;
 use detector::{CvWait, Detector, Queue};
 use sets::{LOCKS, THREADS};
 use waits::{WaitIntent, Waits, place};
+
+impl<'a> Line<'a> {
+    // Puts an item for each thread that reads the lock l.
+    fn readers_of(&mut self, counts: &[u8; Waits::COUNTS], l: usize)
+        requires { (self.old.start ≤ self.old.at) × (l < LOCKS) × Roomy self.old (readers_of counts.now l) }
+        ensures { Lists self.old (readers_of counts.now l) self.new }
+    {
+        for t in 0..THREADS {
+            self.reader(t, l, counts[place(t, l)]);
+        }
+    }
+
+    // Puts an item for each pair in the queue q of the condvar c, in the order of the queue.
+    fn queue(&mut self, c: usize, q: &Queue)
+        requires { (self.old.start ≤ self.old.at) × Queued q.now × Roomy self.old (queue_items c (pairs_of q.now)) }
+        ensures { Lists self.old (queue_items c (pairs_of q.now)) self.new }
+    {
+        for &p in q.pairs() {
+            self.pair(c, p);
+        }
+    }
+}
 
 // Puts the line of a table with the owner or the writer of each lock.
 pub(crate) fn put_owners(out: &mut [u8], at: usize, name: &[u8], owners: &[u8]) -> usize
     requires { Room out.old at (table_text name.now (owners_items owners.now)) }
     ensures { Put out.old at (table_text name.now (owners_items owners.now)) out.new result }
 {
-    let mut to = at;
+    let mut line = Line::begin(out, at, name);
     for (l, &o) in owners.iter().enumerate() {
-        to = put_owner(out, at, to, name, o, l);
+        line.owner(o, l);
     }
-    put_close(out, at, to)
-}
-
-// Puts an item for each thread that reads the lock l.
-fn put_readers_of(
-    out: &mut [u8],
-    start: usize,
-    at: usize,
-    name: &[u8],
-    counts: &[u8; Waits::COUNTS],
-    l: usize,
-) -> usize
-    requires { (start ≤ at) × (l < LOCKS) × Roomy start name.now (readers_of counts.now l) out.old at }
-    ensures { Lists start name.now (readers_of counts.now l) out.old at out.new result }
-{
-    let mut to = at;
-    for t in 0..THREADS {
-        to = put_reader(out, start, to, name, t, l, counts[place(t, l)]);
-    }
-    to
+    line.close()
 }
 
 // Puts the line of the reader counts, lock by lock.
@@ -54,23 +56,11 @@ pub(crate) fn put_readers(
     requires { Room out.old at (table_text name.now (readers_items counts.now)) }
     ensures { Put out.old at (table_text name.now (readers_items counts.now)) out.new result }
 {
-    let mut to = at;
+    let mut line = Line::begin(out, at, name);
     for l in 0..LOCKS {
-        to = put_readers_of(out, at, to, name, counts, l);
+        line.readers_of(counts, l);
     }
-    put_close(out, at, to)
-}
-
-// Puts an item for each pair in the queue q of the condvar c, in the order of the queue.
-fn put_queue(out: &mut [u8], start: usize, at: usize, name: &[u8], c: usize, q: &Queue) -> usize
-    requires { (start ≤ at) × Queued q.now × Roomy start name.now (queue_items c (pairs_of q.now)) out.old at }
-    ensures { Lists start name.now (queue_items c (pairs_of q.now)) out.old at out.new result }
-{
-    let mut to = at;
-    for &p in q.pairs() {
-        to = put_pair(out, start, to, name, c, p);
-    }
-    to
+    line.close()
 }
 
 // Puts the line of the queues of all condvars.
@@ -83,11 +73,11 @@ pub(crate) fn put_queues(
     requires { Queues queues.now × Room out.old at (table_text name.now (queues_items (map pairs_of queues.now))) }
     ensures { Put out.old at (table_text name.now (queues_items (map pairs_of queues.now))) out.new result }
 {
-    let mut to = at;
+    let mut line = Line::begin(out, at, name);
     for (c, q) in queues.iter().enumerate() {
-        to = put_queue(out, at, to, name, c, q);
+        line.queue(c, q);
     }
-    put_close(out, at, to)
+    line.close()
 }
 
 // Puts the line of the cv waits of all threads.
@@ -100,11 +90,11 @@ pub(crate) fn put_cv_waits(
     requires { Room out.old at (table_text name.now (cv_waits_items waits.now)) }
     ensures { Put out.old at (table_text name.now (cv_waits_items waits.now)) out.new result }
 {
-    let mut to = at;
+    let mut line = Line::begin(out, at, name);
     for (t, &v) in waits.iter().enumerate() {
-        to = put_cv_wait(out, at, to, name, t, v);
+        line.cv_wait(t, v);
     }
-    put_close(out, at, to)
+    line.close()
 }
 
 // Puts the line of the intents of all threads.
@@ -117,9 +107,9 @@ pub(crate) fn put_intents(
     requires { Room out.old at (table_text name.now (intents_items intents.now)) }
     ensures { Put out.old at (table_text name.now (intents_items intents.now)) out.new result }
 {
-    let mut to = at;
+    let mut line = Line::begin(out, at, name);
     for (t, &i) in intents.iter().enumerate() {
-        to = put_intent(out, at, to, name, t, i);
+        line.intent(t, i);
     }
-    put_close(out, at, to)
+    line.close()
 }

@@ -7,6 +7,7 @@ mod buffers;
 mod chunks;
 mod help;
 mod part;
+mod program;
 mod scripts;
 
 pub use help::run_program;

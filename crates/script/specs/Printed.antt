@@ -3,10 +3,10 @@ use Rattle.std.specs.Prelude.{ℕ, ◌<◌, List, [], ◌∷◌, get_or}
 use Rattle.text.specs.Bytes.{text}
 use Rattle.text.specs.Decimal.{decimal, joined}
 use Rattle.script.specs.Words.{Word, ma, mc, mr, md, ra, rc, rt, rr, wa, wc, wr, rd, cn, cd, cb, c1, ca, ce, spelled}
+use Rattle.waits.specs.Code as code
 use Rattle.waits.specs.declared.outcome.Outcome.{Outcome}
 use Rattle.waits.specs.declared.outcome.Outcome.TheVariants as outcome
 use Rattle.waits.specs.declared.outcome.Tried.{Tried}
-use Rattle.waits.specs.declared.outcome.Tried.TheVariants as tried
 use Rattle.detector.specs.declared.event.Event.{Event}
 use Rattle.detector.specs.declared.event.Event.TheVariants as event
 
@@ -18,8 +18,7 @@ pub data Parts : Type 0 where
 
 -- Returns the outcome that is printed for a try of `rt`.
 abbrev pub as_outcome : Tried → Outcome
-as_outcome tried.Taken = outcome.Took
-as_outcome tried.Missed = outcome.Blocked
+as_outcome o = code.as_outcome o
 
 -- Returns the word of an event and its fields. The lock of `cb` and `ce` stands there as a hint.
 abbrev pub parts_of : Event → Parts

@@ -2,24 +2,14 @@
 ghost use Rattle.std.specs.Prelude.{◌≡◌, [], ◌∷◌};
 ghost use Rattle.text.specs.Decimal.{decimal, with_tab, joined};
 ghost use Rattle.text.specs.Promises.{Room, Put};
-ghost use Rattle.script.specs.Printed.{as_outcome, outcome_text, event_text};
+ghost use Rattle.script.specs.Printed.{outcome_text, event_text};
 
 use detector::Event;
 use text::{put_bytes, put_field};
-use waits::{Outcome, Tried};
+use waits::Outcome;
 
 // The line of any event takes at most this many bytes, whatever its numbers are.
 pub const EVENT_BYTES: usize = 65;
-
-// Returns the outcome that is printed for a try of `rt`.
-fn as_outcome(o: Tried) -> Outcome
-    ensures { result ≡ as_outcome o }
-{
-    match o {
-        Tried::Taken => Outcome::Took,
-        Tried::Missed => Outcome::Blocked,
-    }
-}
 
 // Puts a tab and an outcome, and returns the place after it.
 fn put_outcome(out: &mut [u8], at: usize, o: Outcome) -> usize
@@ -74,7 +64,7 @@ pub fn put_event(out: &mut [u8], at: usize, e: Event) -> usize
         Event::MutexExit(l) => put_one(out, at, b"md", l),
         Event::RwReadAttempt(t, l, o) => put_three(out, at, b"ra", t, l, o),
         Event::RwReadAcquired(t, l) => put_two(out, at, b"rc", t, l),
-        Event::RwReadTry(t, l, o) => put_three(out, at, b"rt", t, l, as_outcome(o)),
+        Event::RwReadTry(t, l, o) => put_three(out, at, b"rt", t, l, Outcome::from(o)),
         Event::RwReadReleased(t, l) => put_two(out, at, b"rr", t, l),
         Event::RwWriteAttempt(t, l, o) => put_three(out, at, b"wa", t, l, o),
         Event::RwWriteAcquired(t, l) => put_two(out, at, b"wc", t, l),

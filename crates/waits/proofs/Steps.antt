@@ -6,7 +6,7 @@ use Rattle.std.specs.Prelude.{Option, None, Some}
 use Rattle.std.specs.Option.{option_or}
 use Rattle.graph.specs.Graph.{Adding, adding, first}
 use Rattle.graph.specs.declared.wait_for_graph.WaitForGraph.{WaitForGraph}
-use Rattle.graph.proofs.Owners.{sooner_first}
+use Rattle.graph.proofs.Adding.{sooner_first}
 use Rattle.waits.specs.Tables.{intent_of, with_graph, InRange}
 use Rattle.waits.specs.Waiting.{Linking, renew_for, renew, refresh, refresh_next}
 use Rattle.waits.specs.Code.{linked}

@@ -14,6 +14,10 @@ use Rattle.waits.specs.declared.tables.Waits.{Waits}
 use Rattle.waits.specs.declared.intent.WaitIntent.{WaitIntent}
 use Rattle.waits.specs.declared.intent.WaitMode.{WaitMode}
 use Rattle.waits.specs.declared.intent.WaitMode.TheVariants.{Mutex, RwRead, RwWrite}
+use Rattle.waits.specs.declared.outcome.Outcome.{Outcome}
+use Rattle.waits.specs.declared.outcome.Outcome.TheVariants.{Took, Blocked}
+use Rattle.waits.specs.declared.outcome.Tried.{Tried}
+use Rattle.waits.specs.declared.outcome.Tried.TheVariants.{Taken, Missed}
 
 -- RESULTS
 -- Returns the tables after registering or refreshing, with the path found.
@@ -41,6 +45,12 @@ abbrev pub passes_for : WaitMode → List ℕ → Waits → List ℕ → Bool
 passes_for Mutex counts w p = passes counts w p
 passes_for RwRead counts w p = true
 passes_for RwWrite counts w p = true
+
+-- OUTCOMES
+-- Returns the outcome that a read that is only tried stands for.
+abbrev pub as_outcome : Tried → Outcome
+as_outcome Taken = Took
+as_outcome Missed = Blocked
 
 -- MASKS
 -- Returns the locks of m that are in the holds of every thread of p.

@@ -12,4 +12,4 @@ mod wait;
 pub use counts::{count_down, count_up, no_readers, place};
 pub use intent::{WaitIntent, WaitMode, lock_of};
 pub use outcome::{Outcome, Tried};
-pub use tables::{Owners, Waits};
+pub use tables::Waits;

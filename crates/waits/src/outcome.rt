@@ -15,3 +15,18 @@ pub enum Tried {
     Taken,
     Missed,
 }
+
+impl From<Tried> for Outcome {
+    ghost use Rattle.std.specs.Prelude.{◌≡◌};
+    ghost use Rattle.waits.specs.Code.{as_outcome};
+
+    ghost from_gives = { λ t o. o ≡ as_outcome t };
+
+    // Returns the outcome that a read that is only tried stands for: a read that missed was blocked without a hint.
+    fn from(tried: Tried) -> Outcome {
+        match tried {
+            Tried::Taken => Outcome::Took,
+            Tried::Missed => Outcome::Blocked,
+        }
+    }
+}

@@ -19,13 +19,6 @@ pub struct Waits {
     pub rwlock_writer: [u8; LOCKS],
 }
 
-// The owners that block an intent, in order: the readers upward, then `last`, if there is another.
-#[derive(Clone, Copy)]
-pub struct Owners {
-    pub readers: u32,
-    pub last: Option<usize>,
-}
-
 // Returns the thread that a table of owners or writers names, or None for nobody.
 pub(crate) fn owner(byte: u8) -> Option<usize>
     ensures { result ≡ named byte }

@@ -11,8 +11,8 @@ ghost use Rattle.waits.specs.Code.{linked, judged, awaited_mask};
 
 use crate::counts::reader_mask;
 use crate::intent::{WaitIntent, WaitMode};
-use crate::tables::{Owners, Waits, owner};
-use graph::Path;
+use crate::tables::{Waits, owner};
+use graph::{Owners, Path};
 use sets::Set;
 
 impl Waits {
@@ -90,8 +90,7 @@ impl Waits {
     {
         self.set_wait_intent(t, i);
         let owners = self.incompatible_owners(counts, i);
-        self.wait_for_graph
-            .add_owners(t, owners.readers, owners.last)
+        self.wait_for_graph.add_owners(t, owners)
     }
 
     // Drops the edges of the waiter t and adds an edge to every owner that blocks its intent. Returns the first path.
@@ -102,7 +101,7 @@ impl Waits {
     {
         let i = self.thread_waits_for[t]?;
         let owners = self.incompatible_owners(counts, i);
-        self.wait_for_graph.relink(t, owners.readers, owners.last)
+        self.wait_for_graph.relink(t, owners)
     }
 
     // Refreshes l's waiters: renews the edges of each, upward. Returns the first path.

@@ -17,6 +17,7 @@ use Rattle.detector.specs.Tables.{no_pair}
 use Rattle.detector.specs.declared.state.Pair.{Pair}
 use Rattle.detector.proofs.Validity.{unmapped}
 use Rattle.detector.proofs.valid.queue_valid.Goals as goal
+use Rattle.detector.proofs.valid.queue_valid.Goals.{Start}
 
 -- Testing each pair with its place is testing each place with the pair that stands there.
 placed : (f : ℕ → Pair → Bool) (ps : List Pair) (a : ℕ) (g : ℕ → Bool) → ((k : ℕ) → f (a + k) (get_or ps k no_pair) ≡ g (a + k))
@@ -26,11 +27,15 @@ placed f (p ∷ ps) a g h =
     let z : a + 0 ≡ a = omega arith in
     ap₂ (λ (x y : Bool). x && y) (rw z at (h 0)) (placed f ps (a + 1) g (λ k. let e : a + suc k ≡ a + 1 + k = omega arith in rw e at (h (suc k))))
 
+-- A queue has 32 places.
+places : (c : Start) → length c.args.q.pairs ≡ 32
+places c = search (rules, unmapped)
+
 pub returns-then-n-le-PLACES : goal.returns-then-n-le-PLACES
 unfolding queue_test
 returns-then-n-le-PLACES c =
     let q = c.args.q in
-    let n : length q.pairs ≡ 32 = search (rules, unmapped) in
+    let n = places (goal.at.returns-then-n-le-PLACES c).Start in
     let h : q.len < 33 = omega arith in
     let test = λ (k : ℕ). place_test q.len k (get_or q.pairs k no_pair) in
     let all = all_from_yields_List (λ (e : ℕ × Pair). place_test q.len e.0 e.1) _ _ c.all.result c.all.ensures.ran (YieldsList-from_enumerate (YieldsList-at c.enumerate.ensures.source (YieldsList-from_slice q.pairs (cc))) c.enumerate.ensures.count) (λ x b s k. let r : (s ≡ _) × (b ≡ place_test c.from-n.result x.0 x.1.now) = search (rules, tests) in (r.0, rw c.from-n.ensures at r.1)) in
@@ -39,6 +44,6 @@ returns-then-n-le-PLACES c =
 pub returns-else-n-le-PLACES : goal.returns-else-n-le-PLACES
 unfolding queue_test
 returns-else-n-le-PLACES c =
-    let n : length c.args.q.pairs ≡ 32 = search (rules, unmapped) in
+    let n = places (goal.at.returns-else-n-le-PLACES c).Start in
     let f : leb c.from-n.result 32 ≡ false = search (rules, tests) in
     (rw (le-ltb c.args.q.len 33 (omega arith)) f, n)

@@ -6,4 +6,4 @@ use mathlib.Core.List.{map}
 use Rattle.listing.proofs.members.put_members.Given as goal
 
 abbrev pub invariant-loop-j : goal.invariant-loop-j
-invariant-loop-j l = Partly l.at l.name (members_of l.fn.m) (map decimal (upward 64 l.j-iterator.left)) l.initial.out l.at l.out l.to
+invariant-loop-j l = Partly l.initial.line (members_of l.fn.m) (map decimal (upward 64 l.j-iterator.left)) l.line

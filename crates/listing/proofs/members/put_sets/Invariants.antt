@@ -8,4 +8,4 @@ use Rattle.listing.proofs.members.put_sets.Given as goal
 
 -- The items of the cells from i on are still to be put.
 abbrev pub invariant-loop-i : goal.invariant-loop-i
-invariant-loop-i g l = Partly l.at l.name (sets_items l.sign (map g.S.Set.mask l.rows)) (along (λ k. set_items l.sign k (row (map g.S.Set.mask l.rows) k)) l.i (length l.rows - l.i)) l.initial.out l.at l.out l.to
+invariant-loop-i g l = Partly l.initial.line (sets_items l.sign (map g.S.Set.mask l.rows)) (along (λ k. set_items l.sign k (row (map g.S.Set.mask l.rows) k)) l.i (length l.rows - l.i)) l.line

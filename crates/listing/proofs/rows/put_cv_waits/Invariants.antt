@@ -7,4 +7,4 @@ use Rattle.listing.proofs.rows.put_cv_waits.Given as goal
 
 -- The items of the threads from t on are still to be put.
 abbrev pub invariant-loop-t : goal.invariant-loop-t
-invariant-loop-t l = Partly l.at l.name (cv_waits_items l.fn.waits) (along (λ k. cv_wait_item k (get_or l.fn.waits k blank_cv_wait)) l.t (length l.fn.waits - l.t)) l.initial.out l.at l.out l.to
+invariant-loop-t l = Partly l.initial.line (cv_waits_items l.fn.waits) (along (λ k. cv_wait_item k (get_or l.fn.waits k blank_cv_wait)) l.t (length l.fn.waits - l.t)) l.line

@@ -7,4 +7,4 @@ use Rattle.listing.proofs.rows.put_intents.Given as goal
 
 -- The items of the threads from t on are still to be put.
 abbrev pub invariant-loop-t : goal.invariant-loop-t
-invariant-loop-t l = Partly l.at l.name (intents_items l.intents) (along (λ k. intent_item k (get_or l.intents k None)) l.t (length l.intents - l.t)) l.initial.out l.at l.out l.to
+invariant-loop-t l = Partly l.initial.line (intents_items l.intents) (along (λ k. intent_item k (get_or l.intents k None)) l.t (length l.intents - l.t)) l.line

@@ -8,4 +8,4 @@ use Rattle.listing.proofs.rows.put_queues.Given as goal
 
 -- The items of the condvars from c on are still to be put.
 abbrev pub invariant-loop-c : goal.invariant-loop-c
-invariant-loop-c l = Partly l.at l.name (queues_items (map pairs_of l.fn.queues)) (along (queue_at l.fn.queues) l.c (length (map pairs_of l.fn.queues) - l.c)) l.initial.out l.at l.out l.to
+invariant-loop-c l = Partly l.initial.line (queues_items (map pairs_of l.fn.queues)) (along (queue_at l.fn.queues) l.c (length (map pairs_of l.fn.queues) - l.c)) l.line

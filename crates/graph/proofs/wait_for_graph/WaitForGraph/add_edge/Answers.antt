@@ -1,5 +1,5 @@
 use mathlib.Core.Path.{sym, ◌∙◌}
-use Rattle.graph.proofs.Owners.{closes, stores}
+use Rattle.graph.proofs.Adding.{closes, stores}
 use Rattle.graph.specs.Graph.{add_edge}
 use Rattle.graph.proofs.wait_for_graph.WaitForGraph.add_edge.Goals as goal
 

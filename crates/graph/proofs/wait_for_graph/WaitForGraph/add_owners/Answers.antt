@@ -2,7 +2,7 @@ use mathlib.Core.List.{foldl}
 use mathlib.Core.Path.{sym, ap, ◌∙◌}
 use Rattle.sets.proofs.Tables.{fold_append}
 use Rattle.sets.proofs.Walk.{first_lt}
-use Rattle.graph.proofs.Owners.{next_added}
+use Rattle.graph.proofs.Adding.{next_added}
 use Rattle.graph.specs.Graph.{adding, add_next, add_owners}
 use Rattle.graph.proofs.wait_for_graph.WaitForGraph.add_owners.Goals as goal
 

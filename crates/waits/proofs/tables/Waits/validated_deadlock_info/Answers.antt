@@ -1,7 +1,21 @@
-use mathlib.Core.Path.{sym, ◌∙◌}
+use mathlib.Core.Bool.{false}
+use mathlib.Core.Path.{◌≡◌, sym, ◌∙◌}
+use Rattle.waits.specs.Waiting.{refresh_locks}
+use Rattle.waits.specs.Validate.{valid, awaited_locks}
+use Rattle.waits.specs.Code.{linked}
 use Rattle.waits.proofs.Judging.{first_reports, second_none, second_reports, second_quiet}
 use Rattle.waits.proofs.Masks.{awaited_locks_lem}
 use Rattle.waits.proofs.tables.Waits.validated_deadlock_info.Goals as goal
+use Rattle.waits.proofs.tables.Waits.validated_deadlock_info.Goals.{After-refresh_all}
+
+-- After the refreshes the cycle is known to be not valid, and the locks that were refreshed are those that the rule names.
+second_look : (c : After-refresh_all)
+    → (valid c.args.counts.now c.args.self.now c.args.cycle ≡ false)
+    × (linked c.refresh_all.new.self c.refresh_all.result ≡ refresh_locks c.args.counts.now c.args.self.now (awaited_locks c.args.self.now c.args.cycle))
+second_look c = (
+  sym c.validate_wait_cycle.ensures ∙ c.if-validate_wait_cycle.false,
+  c.refresh_all.ensures.0 ∙ rw (c.awaited-locks.ensures, awaited_locks_lem),
+)
 
 pub returns-then-validate_wait_cycle : goal.returns-then-validate_wait_cycle
 returns-then-validate_wait_cycle c =
@@ -9,21 +23,15 @@ returns-then-validate_wait_cycle c =
 
 pub returns-in_err-refreshed : goal.returns-in_err-refreshed
 returns-in_err-refreshed c =
-    let v = sym c.validate_wait_cycle.ensures ∙ c.if-validate_wait_cycle.false in
-    let r = c.refresh_all.ensures in
-    let e = r.0 ∙ rw (c.awaited-locks.ensures, awaited_locks_lem) in
-    (rw c.from_residual.ensures (second_none _ _ _ v _ _ e c.in_err-refreshed.was), r.1)
+    let s = second_look (goal.at.returns-in_err-refreshed c).After-refresh_all in
+    (rw c.from_residual.ensures (second_none _ _ _ s.0 _ _ s.1 c.in_err-refreshed.was), c.refresh_all.ensures.1)
 
 pub returns-then-validate_wait_cycle-2 : goal.returns-then-validate_wait_cycle-2
 returns-then-validate_wait_cycle-2 c =
-    let v = sym c.validate_wait_cycle.ensures ∙ c.if-validate_wait_cycle.false in
-    let r = c.refresh_all.ensures in
-    let e = r.0 ∙ rw (c.awaited-locks.ensures, awaited_locks_lem) in
-    (second_reports _ _ _ v _ _ e _ c.in_ok-refreshed.was (sym c.validate_wait_cycle-2.ensures ∙ c.if-validate_wait_cycle-2.true), r.1)
+    let s = second_look (goal.at.returns-then-validate_wait_cycle-2 c).After-refresh_all in
+    (second_reports _ _ _ s.0 _ _ s.1 _ c.in_ok-refreshed.was (sym c.validate_wait_cycle-2.ensures ∙ c.if-validate_wait_cycle-2.true), c.refresh_all.ensures.1)
 
 pub returns : goal.returns
 returns c =
-    let v = sym c.validate_wait_cycle.ensures ∙ c.if-validate_wait_cycle.false in
-    let r = c.refresh_all.ensures in
-    let e = r.0 ∙ rw (c.awaited-locks.ensures, awaited_locks_lem) in
-    (second_quiet _ _ _ v _ _ e _ c.in_ok-refreshed.was (sym c.validate_wait_cycle-2.ensures ∙ c.if-validate_wait_cycle-2.false), r.1)
+    let s = second_look (goal.at.returns c).After-refresh_all in
+    (second_quiet _ _ _ s.0 _ _ s.1 _ c.in_ok-refreshed.was (sym c.validate_wait_cycle-2.ensures ∙ c.if-validate_wait_cycle-2.false), c.refresh_all.ensures.1)
