@@ -3,7 +3,7 @@ use mathlib.Core.Path.{◌≡◌, refl, sym, ap, ◌∙◌, subst}
 use mathlib.Core.Bool.{Bool, true, false, cond, true≢false, false≢true}
 use lib.Dec.{eqb, lit<, lit≤}
 use mathlib.Core.List.{List}
-use Prim.Native.Nat.{ℕ, ◌-◌, ◌<◌, ◌≤◌, zero, suc}
+use Prim.Native.Nat.{ℕ, ◌-◌, ◌<◌, zero, suc}
 use native.Mathlib.Omega.{arith}
 use borrow.Author.Tests.{eq-eqb}
 use lib.Seq.{set-get_or, get_or-set_same}
@@ -17,7 +17,7 @@ use Rattle.waits.specs.declared.outcome.Outcome.{Outcome}
 use Rattle.waits.specs.declared.outcome.Outcome.TheVariants.{Took, Blocked, Hinted}
 use Rattle.detector.specs.Mutex.{acquire_slow, mutex_attempt, released}
 use Rattle.detector.specs.RwLock.{acquire_read, read_attempt, acquire_write, write_attempt, write_released}
-use Rattle.waits.proofs.Laws.{range_own, range_write, range_empty}
+use Rattle.waits.proofs.Laws.{range_empty}
 use Rattle.waits.specs.Report.{Judging, written}
 use Rattle.waits.specs.Code.{judged}
 use Rattle.waits.specs.Promises.{laid}
@@ -45,13 +45,6 @@ valid_counts d w c v s = record { waits = s; queues = v.queues; cv_waits = v.cv_
 
 valid_waits : (d : Detector) (w : Waits) → Valid d → InRange w → Valid (put_waits d w)
 valid_waits d w v s = valid_counts d w d.rwlock_readers v s
-
--- So it does if a thread or nobody becomes the owner or the writer of a lock.
-pub valid_own : (d : Detector) (o l : ℕ) → o ≤ 32 → Valid d → Valid (put_waits d (own d.waits o l))
-valid_own d o l h v = valid_waits d _ v (range_own d.waits l o h v.waits)
-
-pub valid_write : (d : Detector) (o l : ℕ) → o ≤ 32 → Valid d → Valid (put_waits d (write d.waits o l))
-valid_write d o l h v = valid_waits d _ v (range_write d.waits l o h v.waits)
 
 -- ---- Promises
 

@@ -63,10 +63,6 @@ module _ (q : Queue) (h : Queued q) where
   pub pair_small : (k : ℕ) → k < length (pairs_of q) → ((get_or (pairs_of q) k no_pair).thread < 32) × ((get_or (pairs_of q) k no_pair).lock < 64)
   pair_small k i = rw (get_or-take q.len q.pairs k no_pair (omega (arith, pairs_length))) (h.threads k, h.locks k)
 
--- A queue of a valid state has at most 32 pairs.
-pub few_pairs : (d : Detector) (c : ℕ) → Valid d → c < 16 → length (pairs_of (get_or d.condvars.cv_waiters c blank_queue)) ≤ 32
-few_pairs d c v h = let q = v.queues c h in omega (arith, pairs_length (get_or d.condvars.cv_waiters c blank_queue) q, q.long)
-
 -- A list has no first pair if it is empty, and else it is its first pair and the others.
 pub none_first : (ps : List Pair) → slice_get ps 0 ≡ None → ps ≡ []
 none_first [] e = refl

@@ -11,14 +11,10 @@ fn asks_help(word: &[u8]) -> bool {
 impl Program<'_> {
     // Returns true if one of the program's arguments asks what it takes.
     fn help_asked(&self) -> bool {
-        let n = argument_count(self.rt);
-        for i in 1..n {
+        (1..argument_count(self.rt)).any(|i| {
             let mut word = [0u8; ARGUMENT_BYTES];
-            if argument(self.rt, i, &mut word).is_some_and(asks_help) {
-                return true;
-            }
-        }
-        false
+            argument(self.rt, i, &mut word).is_some_and(asks_help)
+        })
     }
 
     // Writes a text to standard output.

@@ -68,7 +68,7 @@ impl Set for u32 {
     ghost mask = { λ m. m };
 
     fn wide(self) -> u64 {
-        self as u64
+        u64::from(self)
     }
 
     fn narrow(m: u64) -> u32 {

@@ -129,6 +129,11 @@ module _ (d f : Detector) (r : Reply) (b e : List ℕ) (g : Valid d) (n : length
           let k : r ≡ Err (numbered (refusal (tables d) buffer_bytes ev)) = refused_is r (omega (arith, s.0)) ∙ rw (s.0, n) in
           rw (k, s.1, s.2, line_refused (tables d) ev q) (refused_results d (numbered (refusal (tables d) buffer_bytes ev)) b g)
 
+  -- An event that is served by its rule gives the result of its line.
+  pub met_served : (ev : Event) → refusal (tables d) (length b) ev ≡ 0 → Does f (length (apply ev (tables d)).reports) b e (apply ev (tables d))
+      → r ≡ Ok (length (apply ev (tables d)).reports) → Results f r e (line_result (tables d) (Some ev))
+  met_served ev z s o = event_results ev (record { refused = λ h. absurd (omega (arith, z)); served = λ i. (o, s) })
+
   -- So every line that is replied to gives its result.
   pub line_results : (l : Option Event) → Replied d l f r b e → Results f r e (line_result (tables d) l)
   line_results (Some ev) p = event_results ev p
