@@ -1,7 +1,7 @@
 -- What replay prints. For a line it is the line's number with `ok` and the number of reports, or with `no` and
 -- the refusal, and then a `cycle` line for each report. After the last line it is `end` with the totals, in
 -- which a refused line counts as read. Tabs part the fields.
-use Rattle.std.specs.Prelude.{ℕ, ◌+◌, ◌*◌, List, [], ◌∷◌, ◌++◌, map, Result, Ok, Err}
+use Rattle.std.specs.Prelude.{ℕ, ◌+◌, ◌*◌, List, [], ◌∷◌, ◌++◌, map, Ok, Err}
 use Rattle.sets.specs.Limits.{THREADS}
 use Rattle.detector.specs.Limits.{PLACES}
 use Rattle.text.specs.Bytes.{text}
@@ -9,21 +9,20 @@ use Rattle.text.specs.Decimal.{decimal, tabbed, line}
 use Rattle.answers.specs.Reports.{reports_in}
 use Rattle.waits.specs.Report.{Entry}
 use Rattle.detector.specs.Numbered as refusals
-use Rattle.detector.specs.Numbered.{reports_of}
-use Rattle.detector.specs.declared.refused.Refusal.{Refusal}
+use Rattle.detector.specs.Numbered.{Reply, reports_of}
 
 -- Returns `ok` for a reply with a number of reports, and `no` for a refusal.
-abbrev pub verdict : Result ℕ Refusal → List ℕ
+abbrev pub verdict : Reply → List ℕ
 verdict (Ok n) = text "ok"
 verdict (Err r) = text "no"
 
 -- Returns the number that is printed for a reply: how many reports there are, or that of the refusal.
-abbrev pub number : Result ℕ Refusal → ℕ
+abbrev pub number : Reply → ℕ
 number (Ok n) = n
 number (Err r) = refusals.number r
 
 -- Returns the reply line of line n.
-unfoldable pub reply_text : ℕ → Result ℕ Refusal → List ℕ
+unfoldable pub reply_text : ℕ → Reply → List ℕ
 reply_text n r = line (decimal n ∷ verdict r ∷ decimal (number r) ∷ [])
 
 -- Returns the item of an entry, `thread:lock`.
@@ -44,7 +43,7 @@ cycles_text [] = []
 cycles_text (es ∷ rs) = cycle_text es ++ cycles_text rs
 
 -- Returns the answer to line n, whose reply is r and whose reports stand in the report buffer b.
-unfoldable pub answer_text : ℕ → Result ℕ Refusal → List ℕ → List ℕ
+unfoldable pub answer_text : ℕ → Reply → List ℕ → List ℕ
 answer_text n r b = reply_text n r ++ cycles_text (reports_in (reports_of r) b)
 
 -- Returns the `end` line with the three totals.

@@ -13,7 +13,7 @@ use Rattle.waits.proofs.Judging.{laid_none}
 use Rattle.detector.specs.Tables.{Tables, Effect, empty}
 use Rattle.detector.specs.Refusals.{refusal, buffer_bytes}
 use Rattle.detector.specs.State.{pairs_of, tables, Valid}
-use Rattle.detector.specs.Numbered.{numbered, refused_by, reports_of}
+use Rattle.detector.specs.Numbered.{Reply, refused_by, reports_of}
 use Rattle.detector.specs.Promises.{refusal_of, Steps}
 use Rattle.detector.specs.declared.event.Event.{Event}
 use Rattle.detector.specs.declared.event.Event.TheVariants.{MutexAttempt, RwWriteAttempt, RwReadAttempt}
@@ -33,9 +33,7 @@ use Rattle.demands.proofs.StepAnswered.{step_answered, starts_typed, served_held
 use Rattle.detector.proofs.Validity.{valid_tested}
 use Rattle.detector.proofs.Numbers.{refusal_known}
 use Rattle.detector.proofs.SameState.{same_state}
-use Rattle.detector.specs.declared.refused.Refusal.{Refusal}
-use Rattle.std.specs.Prelude.{Result}
-use Rattle.demands.proofs.Replying.{number_numbered, refused_is, same_refusal}
+use Rattle.detector.proofs.Serving.{number_numbered, refused_is, same_refusal}
 
 -- ---- DEMAND 1
 
@@ -117,7 +115,7 @@ record Follows (d : Detector) (ev : Event) (r : Stepped) (b e : List ℕ) : Type
   after : tables r.detector ≡ (effect (tables d) (length b) ev).tables
   valid : Valid r.detector
 
-same_back : {p q : Result ℕ Refusal} {b c : List ℕ} → p ≡ q → b ≡ c → ◌≡◌ {A = Back} (record { reply = p; buffer = b }) (record { reply = q; buffer = c })
+same_back : {p q : Reply} {b c : List ℕ} → p ≡ q → b ≡ c → ◌≡◌ {A = Back} (record { reply = p; buffer = b }) (record { reply = q; buffer = c })
 same_back p q = λ i. record { reply = p i; buffer = q i }
 
 counted : (x : Tables) (n : ℕ) (e : Event) → reports_of (replied x n e) ≡ length (effect x n e).reports
@@ -202,14 +200,14 @@ steps_coincide d ev r q b e f h s t = go (refusal_of d (length b) ev) refl
     go zero z =
         let x = s.served z in
         let y = t.served z in (
-          ap₂ (λ (c : Detector) (p : Result ℕ Refusal). record { detector = c; reply = p })
+          ap₂ (λ (c : Detector) (p : Reply). record { detector = c; reply = p })
               (same_state r.detector q.detector x.1.valid y.1.valid (queues_out d ev r b e h s z) (queues_out d ev q b f h t z) (x.1.state ∙ sym y.1.state)) (x.0 ∙ sym y.0),
           x.1.bytes ∙ sym y.1.bytes,
         )
     go (suc n) z =
         let x = s.refused (omega (arith, z)) in
         let y = t.refused (omega (arith, z)) in
-        (ap₂ (λ (c : Detector) (p : Result ℕ Refusal). record { detector = c; reply = p }) (x.1 ∙ sym y.1) (same_refusal r.reply q.reply (x.0 ∙ sym y.0) (omega (arith, x.0, z))), x.2 ∙ sym y.2)
+        (ap₂ (λ (c : Detector) (p : Reply). record { detector = c; reply = p }) (x.1 ∙ sym y.1) (same_refusal r.reply q.reply (x.0 ∙ sym y.0) (omega (arith, x.0, z))), x.2 ∙ sym y.2)
 
 -- A state that is fed from the empty one is reached.
 fed_reached : (d₀ d : Detector) (ks : List Call) (bs : List Back) → Starts d₀ → Driven d₀ ks bs d → Reached (tables d)

@@ -12,7 +12,6 @@ pub mod Invariants
 -- Demand 3: second_half
 pub mod Exact
 -- The two files that follow are for demand 1: step_answered
-pub mod Replying
 pub mod StepAnswered
 -- Demand 1: all_answered, all_answered_from_new, each_answered, refused_by_number; demand 2: as_ruled,
 -- coincide, steps_coincide; demand 3: reports_true, converse

@@ -21,7 +21,7 @@ use Rattle.detector.specs.declared.state.Pair.{Pair}
 use Rattle.std.specs.Prelude.{Ok, Err}
 use Rattle.detector.specs.Numbered.{numbered}
 use Rattle.demands.specs.Driven.{Stepped}
-use Rattle.demands.proofs.Replying.{number_numbered}
+use Rattle.detector.proofs.Serving.{number_numbered}
 use Rattle.detector.proofs.Validity.{Shaped, tested_valid}
 use Rattle.detector.proofs.Numbers.{queue_at_lem, queue_length}
 use Rattle.detector.proofs.Queues.{pairs_none}

@@ -2,7 +2,7 @@
 -- threads are all different, and each awaits the lock that stands with it in the report, of which the next
 -- thread, or for the last thread the first, is an owner that blocks this wait.
 use Rattle.std.specs.Prelude.{◌≡◌, ◌⊎◌, ◌↔◌, List, [], ◌∷◌, map, true, ℕ, ◌<◌, length, take}
-use Rattle.std.specs.Prelude.{Option, None, Some}
+use Rattle.std.specs.Prelude.{Option, Some}
 use Rattle.sets.specs.Limits.{THREADS, LOCKS}
 use Rattle.sets.specs.Lists.{In, Distinct}
 use Rattle.sets.specs.Sets.{has}

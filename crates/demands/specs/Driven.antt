@@ -1,12 +1,12 @@
 -- DRIVING THE DETECTOR: calls of the public call `step` one after the other, known by its promise `Steps`
 -- alone. Each call is lent a report buffer of its own, of any length and with any bytes.
-use Rattle.std.specs.Prelude.{◌≡◌, List, [], ◌∷◌, ℕ, Result}
+use Rattle.detector.specs.Numbered.{Reply}
+use Rattle.std.specs.Prelude.{◌≡◌, List, [], ◌∷◌, ℕ}
 use Rattle.detector.specs.Tables.{empty}
 use Rattle.detector.specs.State.{tables, Valid}
 use Rattle.detector.specs.Promises.{Steps}
 use Rattle.detector.specs.declared.event.Event.{Event}
 use Rattle.detector.specs.declared.state.Detector.{Detector}
-use Rattle.detector.specs.declared.refused.Refusal.{Refusal}
 
 -- Holds what goes into a call: the event, and the report buffer as it is lent.
 pub record Call : Type 0 where
@@ -16,11 +16,11 @@ pub record Call : Type 0 where
 -- Holds what a call leaves in the detector: the state after it, and the reply.
 pub record Stepped : Type 0 where
   pub detector : Detector
-  pub reply : Result ℕ Refusal
+  pub reply : Reply
 
 -- Holds what comes back: the reply, and the report buffer after the call.
 pub record Back : Type 0 where
-  pub reply : Result ℕ Refusal
+  pub reply : Reply
   pub buffer : List ℕ
 
 -- States that the calls ks lead from the state d to the state e and give back bs.

@@ -1,5 +1,5 @@
 -- WHAT HOLDS OF EVERY REACHED STATE. That in the code the cells after a queue's end hold 0 is `valid` in demand 2.
-use Rattle.std.specs.Prelude.{Option, None, Some}
+use Rattle.std.specs.Prelude.{Option}
 use Rattle.waits.specs.declared.intent.WaitIntent.{WaitIntent}
 use Rattle.std.specs.Prelude.{◌≡◌, List, [], ◌∷◌, true, ℕ, ◌<◌, ◌≤◌, ◌^◌, get_or, length}
 use Rattle.sets.specs.Limits.{THREADS, LOCKS}

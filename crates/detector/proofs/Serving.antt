@@ -1,16 +1,16 @@
 -- How the promise of a step follows from the promise of an event.
-use mathlib.Core.Path.{◌≡◌, refl, sym, ap, subst}
+use mathlib.Core.Path.{◌≡◌, refl, sym, ap, ◌∙◌, subst}
 use mathlib.Core.List.{List}
-use Prim.Native.Nat.{ℕ, ◌<◌}
+use Prim.Native.Nat.{ℕ, zero, suc, ◌<◌, ◌≤◌}
 use native.Mathlib.Omega.{arith}
-use Rattle.std.specs.Prelude.{Result, Err}
+use Rattle.std.specs.Prelude.{Ok, Err}
 use borrow.Author.Tests.{ne_eqb}
 use Rattle.detector.specs.Events.{apply}
 use mathlib.Core.Bool.{true, false, cond}
 use Rattle.detector.specs.Tables.{Tables, silent}
 use Rattle.detector.specs.Refusals.{refusal}
 use Rattle.detector.specs.Effects.{effect}
-use Rattle.detector.specs.Numbered.{number, numbered}
+use Rattle.detector.specs.Numbered.{Reply, number, numbered, refused_by}
 use Rattle.detector.specs.State.{tables, valid_test}
 use Rattle.detector.specs.Promises.{Replies, refusal_of}
 use Rattle.detector.specs.declared.event.Event.{Event}
@@ -39,12 +39,34 @@ numbered_number Buffer = refl
 numbered_number Queue = refl
 numbered_number Count = refl
 
+-- The refusal that has a number has this number.
+pub number_numbered : (n : ℕ) → 0 < n → n ≤ 8 → number (numbered n) ≡ n
+number_numbered zero h m = absurd (omega arith)
+number_numbered (suc zero) h m = refl
+number_numbered (suc (suc zero)) h m = refl
+number_numbered (suc (suc (suc zero))) h m = refl
+number_numbered (suc (suc (suc (suc zero)))) h m = refl
+number_numbered (suc (suc (suc (suc (suc zero))))) h m = refl
+number_numbered (suc (suc (suc (suc (suc (suc zero)))))) h m = refl
+number_numbered (suc (suc (suc (suc (suc (suc (suc zero))))))) h m = refl
+number_numbered (suc (suc (suc (suc (suc (suc (suc (suc zero)))))))) h m = refl
+number_numbered (suc (suc (suc (suc (suc (suc (suc (suc (suc n))))))))) h m = absurd (omega arith)
+
+-- A reply with a number above 0 is the refusal that has this number.
+pub refused_is : (r : Reply) → 0 < refused_by r → r ≡ Err (numbered (refused_by r))
+refused_is (Ok n) h = absurd (omega arith)
+refused_is (Err f) h = ap Err (sym (numbered_number f))
+
+-- So two replies that refuse with the same number are the same.
+pub same_refusal : (r q : Reply) → refused_by r ≡ refused_by q → 0 < refused_by r → r ≡ q
+same_refusal r q e h = refused_is r h ∙ ap (λ n. Err (numbered n)) e ∙ sym (refused_is q (omega arith))
+
 -- A refusal with the same state and the same buffer keeps the promise.
 pub refuse : (d : Detector) (ev : Event) (r : Refusal) (b : List ℕ) → Replies (number r) d ev d (Err r) b b
 refuse d ev r b = record { refused = λ z. (refl, refl, refl); served = λ z. absurd (omega (arith, number_above r)) }
 
 -- The promise for one refusal is the promise for an equal one.
-pub renumber : {d f : Detector} {ev : Event} {r : Result ℕ Refusal} {b e : List ℕ} {n m : ℕ} → n ≡ m → Replies n d ev f r b e → Replies m d ev f r b e
+pub renumber : {d f : Detector} {ev : Event} {r : Reply} {b e : List ℕ} {n m : ℕ} → n ≡ m → Replies n d ev f r b e → Replies m d ev f r b e
 renumber {d} {f} {ev} {r} {b} {e} q a = subst (λ (k : ℕ). Replies k d ev f r b e) q a
 
 -- The refusal of a step is that of the event if the state is valid, or 2 if it is not.

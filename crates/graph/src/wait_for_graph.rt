@@ -49,7 +49,7 @@ impl WaitForGraph {
 
     // Stores the edge, unless it is there already or there is a path from `to` to `from`, so that it would close a
     // cycle. Such a path is returned, and the graph stays as it is.
-    pub fn add_edge(&mut self, from: usize, to: usize) -> Option<Path>
+    fn add_edge(&mut self, from: usize, to: usize) -> Option<Path>
         requires { (from < THREADS) × (to < THREADS) }
         ensures { adding self.new result ≡ add_edge self.old from to }
     {

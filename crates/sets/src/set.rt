@@ -5,12 +5,10 @@ ghost use Rattle.sets.specs.Sets.{has, with, without};
 ghost use lib.Dec.{lit≤};
 
 use crate::upward::Upward;
-use crate::{LOCKS, THREADS};
 
 // A set of the numbers below SIZE.
 pub trait Set: Copy {
-    const SIZE: usize;
-
+    // How many numbers can be in a set.
     ghost SIZE: { ℕ };
 
     // The mask of a set: the number i is in the set when digit i of the mask is 1.
@@ -61,8 +59,6 @@ pub trait Set: Copy {
 }
 
 impl Set for u32 {
-    const SIZE: usize = THREADS;
-
     ghost SIZE = { THREADS };
 
     ghost mask = { λ m. m };
@@ -79,8 +75,6 @@ impl Set for u32 {
 }
 
 impl Set for u64 {
-    const SIZE: usize = LOCKS;
-
     ghost SIZE = { LOCKS };
 
     ghost mask = { λ m. m };

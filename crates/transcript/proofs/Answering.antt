@@ -12,7 +12,7 @@ use Rattle.detector.specs.Tables.{Tables, Effect, silent}
 use Rattle.detector.specs.Events.{apply}
 use Rattle.detector.specs.Refusals.{refusal, buffer_bytes}
 use Rattle.detector.specs.State.{tables, Valid}
-use Rattle.detector.specs.Numbered.{Reply, numbered, refused_by, reports_of}
+use Rattle.detector.specs.Numbered.{Reply, numbered, reports_of}
 use Rattle.detector.specs.Promises.{Does}
 use Rattle.detector.specs.declared.event.Event.{Event}
 use Rattle.detector.specs.declared.state.Detector.{Detector}
@@ -21,7 +21,7 @@ use Rattle.detector.specs.declared.refused.Refusal.TheVariants.{Unreadable, Stat
 use native.Mathlib.Decide.{ℕ_discrete}
 use Rattle.detector.specs.Effects.{effect}
 use Rattle.detector.specs.Brief.{Brief}
-use Rattle.detector.proofs.Serving.{numbered_number, effect_served, effect_refused}
+use Rattle.detector.proofs.Serving.{refused_is, effect_served, effect_refused}
 use Rattle.detector.proofs.Brief.{most_32, valid_brief}
 use Rattle.answers.specs.Reports.{reports_in, reports_size, reports_bytes}
 use Rattle.answers.specs.Answers.{number}
@@ -107,11 +107,6 @@ served_results d e f b c g n q s =
     }
 
 -- ---- Where the cases of a line meet
-
--- A reply that refuses with a number above 0 is the refusal that has this number.
-refused_is : (r : Reply) → 0 < refused_by r → r ≡ Err (numbered (refused_by r))
-refused_is (Ok n) h = absurd (omega arith)
-refused_is (Err f) h = ap Err (sym (numbered_number f))
 
 module _ (d f : Detector) (r : Reply) (b e : List ℕ) (g : Valid d) (n : length b ≡ buffer_bytes) where
   -- An event that is refused, or is served by its rule, gives the result of its line.

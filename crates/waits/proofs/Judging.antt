@@ -125,9 +125,6 @@ pub refresh_linked : (c : List ℕ) (w : Waits) (l : ℕ) → refresh c w l ≡ 
 unfolding refresh
 refresh_linked c w l = refl
 
-pub refresh_graph : (c : List ℕ) (w : Waits) (l : ℕ) → with_graph w (refreshed c w l).graph ≡ (refresh c w l).waits
-refresh_graph c w l = sym (ap (λ (x : Linking). x.waits) (refresh_linked c w l))
-
 -- Returns the result for a path that is found, by the mode: filtered and validated, or only validated.
 abbrev pub sieved_for : WaitMode → List ℕ → Waits → Option (List ℕ) → Judging
 sieved_for m c w None = quiet w
