@@ -10,16 +10,16 @@ use Rattle.text.specs.Decimal.{decimal, with_tab, tabbed}
 use Rattle.text.specs.Promises.{Room}
 use Rattle.waits.specs.Report.{Entry, entry_bytes}
 use Rattle.detector.specs.Refusals.{buffer_bytes}
-use Rattle.detector.specs.Numbered.{Reply, reports_of}
+use Rattle.detector.specs.Numbered.{reports_of}
 use Rattle.answers.specs.Reports.{entry_in, entries_in, report_in, report_size, reports_in, reports_size}
-use Rattle.answers.specs.Answers.{number, reply_text, item_text, items_text, cycle_text, cycles_text, answer_text, end_text, item_bytes, answer_bytes, end_bytes}
+use Rattle.answers.specs.Answers.{Printed, number, reply_text, item_text, items_text, cycle_text, cycles_text, answer_text, end_text, item_bytes, answer_bytes, end_bytes}
 use Rattle.text.proofs.Digits.{decimal_short, decimal_bound}
 use Rattle.answers.proofs.Items.{reply_parts, end_parts, cycle_parts, item_parts, report_at}
 use Rattle.std.specs.Prelude.{Ok, Err}
 
 -- ---- The length of each text
 
-pub reply_length : (n : ℕ) (r : Reply) → length (reply_text n r) ≡ 5 + length (decimal n) + length (decimal (number r))
+pub reply_length : (n : ℕ) (r : Printed) → length (reply_text n r) ≡ 5 + length (decimal n) + length (decimal (number r))
 reply_length n (Ok k) = ap length (reply_parts n (Ok k)) ∙ simp length-append (omega (arith, length-append (decimal k) (text "\n")))
 reply_length n (Err k) = ap length (reply_parts n (Err k)) ∙ simp length-append (omega (arith, length-append (decimal (number (Err k))) (text "\n")))
 
@@ -37,7 +37,7 @@ cycle_at_length b p = cycle_length (report_in (drop p b)) ∙ ap (λ (es : List 
 
 -- ---- Bounds, for numbers of 64 bits and for bytes
 
-pub reply_bound : (n : ℕ) (r : Reply) → n < 2 ^ 64 → number r < 2 ^ 64 → length (reply_text n r) ≤ 45
+pub reply_bound : (n : ℕ) (r : Printed) → n < 2 ^ 64 → number r < 2 ^ 64 → length (reply_text n r) ≤ 45
 reply_bound n r h g = omega (arith, reply_length n r, decimal_bound n h, decimal_bound (number r) g)
 
 pub end_bound : (n e s : ℕ) → n < 2 ^ 64 → e < 2 ^ 64 → s < 2 ^ 64 → length (end_text n e s) ≤ end_bytes
@@ -69,12 +69,12 @@ cycles_bound (suc r) b h =
     omega (arith, cycle_length (report_in b), items_bound (get_or b 0 0) (drop 1 b) (bytes_drop b 1 h), length-append (cycle_text (report_in b)) (cycles_text (reports_in r (drop (report_size b) b))))
 
 -- An answer has at most 32 reports, which take no more than the report buffer, so it has a longest length.
-pub answer_bound : (n : ℕ) (r : Reply) (b : List ℕ) → n < 2 ^ 64 → number r < 2 ^ 64 → Bytes b → reports_of r ≤ 32 → reports_size (reports_of r) b ≤ buffer_bytes → length (answer_text n r b) ≤ answer_bytes
+pub answer_bound : (n : ℕ) (r : Printed) (b : List ℕ) → n < 2 ^ 64 → number r < 2 ^ 64 → Bytes b → reports_of r ≤ 32 → reports_size (reports_of r) b ≤ buffer_bytes → length (answer_text n r b) ≤ answer_bytes
 unfolding answer_text
 answer_bound n r b h g k s t = omega (arith, reply_bound n r h g, cycles_bound (reports_of r) b k, length-append (reply_text n r) (cycles_text (reports_in (reports_of r) b)))
 
 -- A buffer with room for the longest answer, or the longest `end` line, has room for each of them.
-pub answer_room : (d : List ℕ) (at n : ℕ) (r : Reply) (b : List ℕ) → n < 2 ^ 64 → number r < 2 ^ 64 → Bytes b → reports_of r ≤ 32 → reports_size (reports_of r) b ≤ buffer_bytes → at + answer_bytes ≤ length d → Room d at (answer_text n r b)
+pub answer_room : (d : List ℕ) (at n : ℕ) (r : Printed) (b : List ℕ) → n < 2 ^ 64 → number r < 2 ^ 64 → Bytes b → reports_of r ≤ 32 → reports_size (reports_of r) b ≤ buffer_bytes → at + answer_bytes ≤ length d → Room d at (answer_text n r b)
 answer_room d at n r b h g k s t w = record { fits = omega (arith, answer_bound n r b h g k s t) }
 
 pub end_room : (d : List ℕ) (at n e s : ℕ) → n < 2 ^ 64 → e < 2 ^ 64 → s < 2 ^ 64 → at + end_bytes ≤ length d → Room d at (end_text n e s)

@@ -4,7 +4,7 @@ use mathlib.Core.List.{[], ◌∷◌}
 use Rattle.text.specs.Bytes.{text}
 use Rattle.text.specs.Decimal.{decimal, decimal_in, tabbed}
 use Rattle.answers.specs.Reports.{entries_in, reports_in}
-use Rattle.answers.specs.Answers.{reply_text, item_text, cycle_text, cycles_text, answer_text, end_text}
+use Rattle.answers.specs.Answers.{printed, reply_text, item_text, cycle_text, cycles_text, answer_text, end_text}
 use Rattle.std.specs.Prelude.{Ok, Err}
 use Rattle.detector.specs.declared.refused.Refusal.TheVariants.{Thread}
 
@@ -19,9 +19,14 @@ unfolding answer_text reply_text cycles_text cycle_text item_text reports_in ent
 two_reports = refl
 
 -- For a refused line nothing of the report buffer is printed.
-refused : answer_text 12 (Err Thread) (2 ∷ 1 ∷ 6 ∷ []) ≡ text "12\tno\t3\n"
+refused : answer_text 12 (printed (Err Thread)) (2 ∷ 1 ∷ 6 ∷ []) ≡ text "12\tno\t3\n"
 unfolding answer_text reply_text cycles_text reports_in tabbed decimal decimal_in
 refused = refl
+
+-- Any number is printed as it is.
+other : answer_text 7 (Err 99) [] ≡ text "7\tno\t99\n"
+unfolding answer_text reply_text cycles_text reports_in tabbed decimal decimal_in
+other = refl
 
 -- Session 1 ends with this line, and an empty script with the one below.
 p1_end : end_text 4 1 2 ≡ text "end\t4\t1\t2\n"

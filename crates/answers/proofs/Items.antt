@@ -1,6 +1,5 @@
 -- The printed lines consist of parts that are put one after the other, and the reports of a buffer are printed
 -- one by one.
-use Rattle.detector.specs.Numbered.{Reply}
 use mathlib.Core.Path.{◌≡◌, refl, ap, ◌∙◌}
 use mathlib.Core.List.{List, [], ◌∷◌, ◌++◌, append_assoc, append-nil}
 use Prim.Native.Nat.{ℕ, zero, suc, ◌+◌, ◌*◌, ◌-◌, ◌<◌, ◌≤◌}
@@ -12,8 +11,7 @@ use Rattle.text.specs.Bytes.{text}
 use Rattle.text.specs.Decimal.{decimal, with_tab, tabbed, line}
 use Rattle.waits.specs.Report.{Entry, entry_bytes}
 use Rattle.answers.specs.Reports.{entry_in, entries_in, report_in, report_size, reports_in, reports_size}
-use Rattle.answers.specs.Answers.{verdict, number, reply_text, item_text, items_text, cycle_text, cycles_text, answer_text, end_text}
-use Rattle.detector.specs.declared.refused.Refusal.{Refusal}
+use Rattle.answers.specs.Answers.{Printed, verdict, number, reply_text, item_text, items_text, cycle_text, cycles_text, answer_text, end_text}
 use Rattle.std.specs.Prelude.{Ok, Err}
 
 -- Returns the fields, each with a tab before it, and then a line feed.
@@ -30,7 +28,7 @@ line_ended : (f : List ℕ) (fs : List (List ℕ)) → line (f ∷ fs) ≡ f ++ 
 line_ended f fs = append_assoc f (tabbed fs) (text "\n") ∙ ap (λ (x : List ℕ). f ++ x) (tabbed_ended fs)
 
 -- The reply line, the `end` line and a `cycle` line consist of the parts that the code puts.
-pub reply_parts : (n : ℕ) (r : Reply) → reply_text n r ≡ decimal n ++ (with_tab (verdict r) ++ (with_tab (decimal (number r)) ++ text "\n"))
+pub reply_parts : (n : ℕ) (r : Printed) → reply_text n r ≡ decimal n ++ (with_tab (verdict r) ++ (with_tab (decimal (number r)) ++ text "\n"))
 unfolding reply_text
 reply_parts n r = line_ended (decimal n) (verdict r ∷ decimal (number r) ∷ [])
 
@@ -102,10 +100,10 @@ size_turn n i p b h = size_more (n - i) p b (omega arith) ∙ rw (next_left n i)
 
 -- ---- The answer to a refused line, and to a served one
 
-pub answer_no : (n : ℕ) (k : Refusal) (r : Reply) (b : List ℕ) → r ≡ Err k → answer_text n r b ≡ reply_text n r
+pub answer_no : (n k : ℕ) (r : Printed) (b : List ℕ) → r ≡ Err k → answer_text n r b ≡ reply_text n r
 unfolding answer_text reports_in cycles_text
 answer_no n k r b e = rw e (append-nil (reply_text n (Err k)))
 
-pub answer_ok : (n m : ℕ) (r : Reply) (b : List ℕ) → r ≡ Ok m → answer_text n r b ≡ reply_text n r ++ cycles_text (reports_in m b)
+pub answer_ok : (n m : ℕ) (r : Printed) (b : List ℕ) → r ≡ Ok m → answer_text n r b ≡ reply_text n r ++ cycles_text (reports_in m b)
 unfolding answer_text
 answer_ok n m r b e = rw e

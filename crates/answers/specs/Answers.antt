@@ -1,7 +1,7 @@
 -- What replay prints. For a line it is the line's number with `ok` and the number of reports, or with `no` and
 -- the refusal, and then a `cycle` line for each report. After the last line it is `end` with the totals, in
 -- which a refused line counts as read. Tabs part the fields.
-use Rattle.std.specs.Prelude.{ℕ, ◌+◌, ◌*◌, List, [], ◌∷◌, ◌++◌, map, Ok, Err}
+use Rattle.std.specs.Prelude.{ℕ, ◌+◌, ◌*◌, List, [], ◌∷◌, ◌++◌, map, Result, Ok, Err}
 use Rattle.sets.specs.Limits.{THREADS}
 use Rattle.detector.specs.Limits.{PLACES}
 use Rattle.text.specs.Bytes.{text}
@@ -11,18 +11,27 @@ use Rattle.waits.specs.Report.{Entry}
 use Rattle.detector.specs.Numbered as refusals
 use Rattle.detector.specs.Numbered.{Reply, reports_of}
 
--- Returns `ok` for a reply with a number of reports, and `no` for a refusal.
-abbrev pub verdict : Reply → List ℕ
-verdict (Ok n) = text "ok"
-verdict (Err r) = text "no"
+-- What is printed of a reply: the number of reports, or the number of a refusal, whatever that is.
+abbrev pub Printed : Type 0
+Printed = Result ℕ ℕ
 
--- Returns the number that is printed for a reply: how many reports there are, or that of the refusal.
-abbrev pub number : Reply → ℕ
+-- Returns what is printed of a reply.
+abbrev pub printed : Reply → Printed
+printed (Ok n) = Ok n
+printed (Err r) = Err (refusals.number r)
+
+-- Returns `ok` for a number of reports, and `no` for a refusal.
+abbrev pub verdict : Printed → List ℕ
+verdict (Ok n) = text "ok"
+verdict (Err k) = text "no"
+
+-- Returns the number that is printed: how many reports there are, or the refusal.
+abbrev pub number : Printed → ℕ
 number (Ok n) = n
-number (Err r) = refusals.number r
+number (Err k) = k
 
 -- Returns the reply line of line n.
-unfoldable pub reply_text : ℕ → Reply → List ℕ
+unfoldable pub reply_text : ℕ → Printed → List ℕ
 reply_text n r = line (decimal n ∷ verdict r ∷ decimal (number r) ∷ [])
 
 -- Returns the item of an entry, `thread:lock`.
@@ -42,8 +51,8 @@ unfoldable pub cycles_text : List (List Entry) → List ℕ
 cycles_text [] = []
 cycles_text (es ∷ rs) = cycle_text es ++ cycles_text rs
 
--- Returns the answer to line n, whose reply is r and whose reports stand in the report buffer b.
-unfoldable pub answer_text : ℕ → Reply → List ℕ → List ℕ
+-- Returns the answer to line n, of whose reply r is printed and whose reports stand in the report buffer b.
+unfoldable pub answer_text : ℕ → Printed → List ℕ → List ℕ
 answer_text n r b = reply_text n r ++ cycles_text (reports_in (reports_of r) b)
 
 -- Returns the `end` line with the three totals.

@@ -5,7 +5,7 @@ ghost use Rattle.answers.specs.Answers.{reply_text, answer_text, end_text};
 ghost use Rattle.answers.specs.Promises.{ReportsInside};
 
 use crate::cycle::put_cycles;
-use detector::{Detector, Queue, Refusal};
+use detector::{Detector, Queue};
 use text::{put_byte, put_bytes, put_field, put_number};
 
 // An item of a `cycle` line takes at most this many bytes with the tab before it.
@@ -20,7 +20,7 @@ pub const END_BYTES: usize = 67;
 // Puts the reply line and returns the place after it. The line has its number, then `ok` and the number of
 // reports or `no` and the refusal.
 #[tactic(auto, using(crate::proofs::Bounds::reply_length))]
-fn put_reply(out: &mut [u8], at: usize, line: usize, reply: Result<usize, Refusal>) -> usize
+fn put_reply(out: &mut [u8], at: usize, line: usize, reply: Result<usize, u8>) -> usize
     requires { Room out.old at (reply_text line reply) }
     ensures { Put out.old at (reply_text line reply) out.new result }
 {
@@ -33,19 +33,19 @@ fn put_reply(out: &mut [u8], at: usize, line: usize, reply: Result<usize, Refusa
         }
         Err(refusal) => {
             let b = put_bytes(out, a, b"\tno");
-            let c = put_field(out, b, usize::from(u8::from(refusal)));
+            let c = put_field(out, b, usize::from(refusal));
             put_byte(out, c, b'\n')
         }
     }
 }
 
 // Puts the reply line and a `cycle` line for each report in the report buffer, and returns the place after
-// them. A refusal has no `cycle` lines.
+// them. A refusal comes as its number, whatever that is, and has no `cycle` lines.
 pub fn put_answer(
     out: &mut [u8],
     at: usize,
     line: usize,
-    reply: Result<usize, Refusal>,
+    reply: Result<usize, u8>,
     buf: &[u8],
 ) -> usize
     requires inside { ReportsInside (reports_of reply) buf.now }

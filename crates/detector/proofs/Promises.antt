@@ -81,6 +81,10 @@ does_waits d w v s b = does_counts d w d.rwlock_readers v s b
 pub alike : {c d : Detector} {n : ℕ} {b e : List ℕ} {a : Effect} → c ≡ d → Does d n b e a → Does c n b e a
 alike {n = n} {b = b} {e = e} {a = a} q t = subst (λ (x : Detector). Does x n b e a) (sym q) t
 
+-- The promise of one effect is the promise of an equal one.
+pub redo : {d : Detector} {n : ℕ} {b e : List ℕ} {a z : Effect} → a ≡ z → Does d n b e a → Does d n b e z
+redo {d} {n} {b} {e} q t = subst (Does d n b e) q t
+
 -- If a lock that is taken has no waiters, nothing is reported and the waits stay.
 pub idle_judges : (c : List ℕ) (w : Waits) (l : ℕ) → waiters_of w l ≡ 0 → judged w None ≡ settle c w l
 idle_judges c w l z = sym (settle_idle c w l z)
@@ -112,10 +116,10 @@ as_hinted F G b p q Blocked e = p
 as_hinted F G b p q (Hinted h) e = q h
 
 -- Writing the owner, or the writer, that is there already changes nothing.
-own_same : (w : Waits) (l : ℕ) → own w (owner_of w l) l ≡ w
+pub own_same : (w : Waits) (l : ℕ) → own w (owner_of w l) l ≡ w
 own_same w l = rw (set-get_or w.mutex_owners l 0)
 
-write_same : (w : Waits) (l : ℕ) → write w (writer_of w l) l ≡ w
+pub write_same : (w : Waits) (l : ℕ) → write w (writer_of w l) l ≡ w
 write_same w l = rw (set-get_or w.rwlock_writer l 0)
 
 module _ (x : Tables) (t l : ℕ) where

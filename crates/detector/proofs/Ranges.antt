@@ -6,8 +6,8 @@ use lib.Dec.{eqb, lit≤}
 use Rattle.sets.proofs.Below.{each_keeps}
 use Rattle.waits.specs.Tables.{InRange, owner_of, writer_of, with_holds, own, write, unhold}
 use Rattle.waits.specs.declared.tables.Waits.{Waits}
-use Rattle.waits.proofs.Laws.{range_own, range_write, range_graph}
-use Rattle.detector.specs.Mutex.{released, unhold_all, purge}
+use Rattle.waits.proofs.Laws.{range_own, range_write, range_clear, range_graph}
+use Rattle.detector.specs.Mutex.{gain, released, unhold_all, purge}
 use Rattle.detector.specs.RwLock.{write_released, loosen}
 
 pub range_holds : (w : Waits) (h : List ℕ) → InRange w → InRange (with_holds w h)
@@ -16,6 +16,9 @@ range_holds w h s = record { locks = s.locks; owner = s.owner; writer = s.writer
 range_cond : (b : Bool) (v w : Waits) → InRange v → InRange w → InRange (cond b v w)
 range_cond true v w p q = p
 range_cond false v w p q = q
+
+pub range_gain : (w : Waits) (t l : ℕ) → InRange w → InRange (gain w t l)
+range_gain w t l s = range_clear _ t (range_holds w _ s)
 
 pub range_released : (w : Waits) (t l : ℕ) → InRange w → InRange (released w t l)
 unfolding released

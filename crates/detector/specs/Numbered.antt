@@ -35,6 +35,6 @@ refused_by (Ok x) = 0
 refused_by (Err r) = number r
 
 -- Returns the number of reports, or 0 if the event was refused.
-abbrev pub reports_of : Reply → ℕ
+abbrev pub reports_of : {R : Type 0} → Result ℕ R → ℕ
 reports_of (Ok n) = n
 reports_of (Err r) = 0

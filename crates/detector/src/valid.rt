@@ -32,9 +32,10 @@ fn threads_in_range(of: &[u8; LOCKS]) -> bool
     of.iter().all(|&thread| thread <= Waits::NOBODY)
 }
 
-// Returns true if the intents, the owners and the writers are in range.
+// Returns true if the intents, the owners and the writers are in range. The contract states the lengths of their tables
+// for the caller, where the prover does not know them.
 fn waits_in_range(w: &Waits) -> bool
-    ensures { (result ≡ range_test w.now) × (result ≡ true → InRange w.now) }
+    ensures { (result ≡ range_test w.now) × (result ≡ true → InRange w.now) × (length w.now.thread_waits_for ≡ THREADS) × (length w.now.mutex_owners ≡ LOCKS) × (length w.now.rwlock_writer ≡ LOCKS) }
 {
     intents_in_range(&w.thread_waits_for)
         && threads_in_range(&w.mutex_owners)

@@ -1,6 +1,7 @@
 -- Laws of the definitions, and the theorems that follow from them.
--- The first three files are about what the code keeps.
+-- The first four files are about what the code keeps.
 pub mod Trails
+pub mod Places
 pub mod Adding
 pub mod Fits
 -- These have the theorems.

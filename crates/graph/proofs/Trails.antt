@@ -7,9 +7,9 @@ use Rattle.std.specs.Prelude.{None, Some, slice_get}
 use Rattle.std.proofs.lemmas.Option.{none-some, slice_get_within, get_or_from_slice_get, slice_get_cases}
 use Prim.Native.Nat.{ℕ, zero, suc, ◌-◌, ◌<◌, ◌≤◌}
 use native.Mathlib.Omega.{arith}
-use lib.ListN.{get_or, length, length-append, get_or-append, get_or-map}
+use lib.ListN.{get_or, length, take, length-append, get_or-append, get_or-map}
 use Rattle.std.proofs.lemmas.List.{length-map}
-use lib.Seq.{get_or-append_seam}
+use lib.Seq.{get_or-append_seam, get_or-take, length-take-le}
 use lib.Dec.{lit<, lit≤}
 use borrow.Author.Tests.{lt-ltb, le-ltb, eq-eqb, ne_eqb}
 use lib.Count.{ones-le}
@@ -86,6 +86,16 @@ parent_at fs seen k = get_or-map (λ f. f.parent) fs k (record { thread = 0; par
 -- The trail has as many threads as were found.
 pub found_count : (fs : List Found) (seen : ℕ) → length (trail_of fs seen).threads ≡ length fs
 found_count fs seen = length-map fs (λ f. f.thread)
+
+-- The trail of the first n has as many threads, and each is read at its place.
+pub found_length : (fs : List Found) (n seen : ℕ) → n ≤ 32 → length fs ≡ 32 → length (trail_of (take n fs) seen).threads ≡ n
+found_length fs n seen h e = length-map (take n fs) (λ f. f.thread) ∙ length-take-le n fs (omega (arith, e))
+
+pub found_thread : (fs : List Found) (n seen k : ℕ) → k < n → get_or (trail_of (take n fs) seen).threads k 0 ≡ (get_or fs k (record { thread = 0; parent = 0 })).thread
+found_thread fs n seen k h = thread_at (take n fs) seen k ∙ ap (λ (f : Found). f.thread) (get_or-take n fs k (record { thread = 0; parent = 0 }) h)
+
+pub found_parent : (fs : List Found) (n seen k : ℕ) → k < n → get_or (trail_of (take n fs) seen).parents k 0 ≡ (get_or fs k (record { thread = 0; parent = 0 })).parent
+found_parent fs n seen k h = parent_at (take n fs) seen k ∙ ap (λ (f : Found). f.parent) (get_or-take n fs k (record { thread = 0; parent = 0 }) h)
 
 -- ---- Back along the parents
 

@@ -3,25 +3,33 @@ ghost use Rattle.std.specs.Prelude.{◌≡◌, ◌<◌, [], ◌∷◌, ◌++◌,
 ghost use Rattle.sets.specs.Limits.{THREADS};
 ghost use Rattle.graph.specs.Promises.{Fit, Small};
 
-use arrayvec::ArrayVec;
 use sets::THREADS;
 use std::marker::Model;
 
-// Holds the threads of a path in order, at most 32. A contract sees a path as the list of its threads.
-#[derive(Drop)]
+// Holds the threads of a path in order, at most 32, and 0 at the places after them. A contract sees a path as the list of
+// its threads, which gives the places back, so a path can be copied.
+#[derive(Clone, Copy)]
 pub struct Path {
-    threads: ArrayVec<u8, THREADS>,
+    places: [u8; THREADS],
+    len: usize,
 }
 
 impl Model for Path {
-    ghost use Rattle.std.specs.Prelude.{List, ℕ};
+    ghost use Rattle.std.specs.Prelude.{◌≡◌, ◌≤◌, List, ℕ, length, take};
+    ghost use Rattle.sets.specs.Limits.{THREADS};
     ghost use Rattle.graph.specs.Promises.{Small};
+    ghost use Rattle.graph.specs.Code.{places_of};
+    ghost use Rattle.std.proofs.Common.{arith, length-take-le};
 
     ghost Value = { List ℕ };
 
-    ghost view = { λ p. p.threads.items };
+    ghost view = { λ p. take p.len p.places };
 
-    ghost invariant = { λ p. Small p.threads.items };
+    ghost invariant = { λ p. (p.len ≤ THREADS) × (length p.places ≡ THREADS) × (places_of (take p.len p.places) ≡ p.places) × Small (take p.len p.places) };
+
+    ghost inverse = { λ ts. record { places = places_of ts; len = length ts } };
+
+    ghost inverse_ok = { λ p h i. record { places = h.2 i; len = length-take-le p.len p.places (omega (arith, h.0, h.1)) i } };
 }
 
 impl Path {
@@ -30,7 +38,8 @@ impl Path {
         ensures { result ≡ [] }
     {
         Path {
-            threads: ArrayVec::new(),
+            places: [0; THREADS],
+            len: 0,
         }
     }
 
@@ -39,20 +48,21 @@ impl Path {
         requires { (length self.old < THREADS) × (thread < THREADS) }
         ensures { self.new ≡ self.old ++ thread ∷ [] }
     {
-        self.threads.push(thread);
+        self.places[self.len] = thread;
+        self.len += 1;
     }
 
     // Turns the path round.
     pub(crate) fn reverse(&mut self)
         ensures { self.new ≡ reverse self.old }
     {
-        self.threads.reverse();
+        self.places[..self.len].reverse();
     }
 
     // Returns the threads of the path in order.
     pub fn threads(&self) -> &[u8]
         ensures { (result.now ≡ self.now) × Fit self.now }
     {
-        &self.threads
+        &self.places[..self.len]
     }
 }

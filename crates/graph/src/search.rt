@@ -5,12 +5,11 @@ ghost use Rattle.sets.specs.Limits.{THREADS};
 ghost use Rattle.graph.specs.Search.{visit, expand, way_back, begun, find_path};
 
 use crate::path::Path;
-use arrayvec::ArrayVec;
 use sets::{Set, THREADS};
 use std::marker::Model;
 
 // A thread that was found, and the place of its parent, the thread it was found from.
-#[derive(Clone, Copy, Default)]
+#[derive(Clone, Copy)]
 pub struct Found {
     pub thread: u8,
     pub parent: u8,
@@ -20,20 +19,23 @@ pub struct Found {
 // of them as a set. A contract sees a search as its trail.
 #[derive(Drop)]
 pub struct Search {
-    found: ArrayVec<Found, THREADS>,
+    found: [Found; THREADS],
+    count: usize,
     seen: u32,
 }
 
 impl Model for Search {
+    ghost use Rattle.std.specs.Prelude.{◌≡◌, ◌≤◌, length, take};
+    ghost use Rattle.sets.specs.Limits.{THREADS};
     ghost use Rattle.graph.specs.Search.{Trail};
     ghost use Rattle.graph.specs.Code.{trail_of};
     ghost use Rattle.graph.specs.Promises.{Sound};
 
     ghost Value = { Trail };
 
-    ghost view = { λ s. trail_of s.found.items s.seen };
+    ghost view = { λ s. trail_of (take s.count s.found) s.seen };
 
-    ghost invariant = { λ s. Sound (trail_of s.found.items s.seen) };
+    ghost invariant = { λ s. (s.count ≤ THREADS) × (length s.found ≡ THREADS) × Sound (trail_of (take s.count s.found) s.seen) };
 }
 
 impl Search {
@@ -42,13 +44,13 @@ impl Search {
         requires { start < THREADS }
         ensures { result ≡ begun start }
     {
-        let mut found = ArrayVec::new();
-        found.push(Found {
+        let first = Found {
             thread: start as u8,
             parent: 0,
-        });
+        };
         Search {
-            found,
+            found: [first; THREADS],
+            count: 1,
             seen: 0u32.with(start),
         }
     }
@@ -59,10 +61,11 @@ impl Search {
         ensures { self.new ≡ visit p self.old n }
     {
         if !self.seen.has(n) {
-            self.found.push(Found {
+            self.found[self.count] = Found {
                 thread: n as u8,
                 parent: p as u8,
-            });
+            };
+            self.count += 1;
             self.seen = self.seen.with(n);
         }
     }
@@ -81,7 +84,7 @@ impl Search {
     fn thread(&self, place: usize) -> Option<usize>
         ensures { (result ≡ slice_get self.now.threads place) × IfSome result (λ t. (t < THREADS) × (place < length self.now.threads)) }
     {
-        let found = self.found.get(place)?;
+        let found = self.found[..self.count].get(place)?;
         Some(usize::from(found.thread))
     }
 

@@ -1,4 +1,6 @@
 // This module reads the program's arguments.
+ghost use Rattle.std.specs.Prelude.{◌≤◌, length, IfSome};
+
 use std::env::FillError;
 use std::rt::Env;
 
@@ -17,7 +19,9 @@ pub(crate) fn argument_count(rt: &HostRuntime) -> usize {
 }
 
 // Returns argument i, which is read into `word`, or None if it is missing or too long for `word`.
-pub(crate) fn argument<'a>(rt: &HostRuntime, i: usize, word: &'a mut [u8]) -> Option<&'a [u8]> {
+pub(crate) fn argument<'a>(rt: &HostRuntime, i: usize, word: &'a mut [u8]) -> Option<&'a [u8]>
+    ensures { IfSome result (λ a. length a.now ≤ length word.old) }
+{
     let n = rt.arg(i, word).ok()?;
     Some(&word[..n])
 }

@@ -51,7 +51,8 @@ fn take_chunk<W: Write>(
 // line may be left to answer.
 fn end<W: Write>(output: &mut W, run: &Run, buffers: &mut Buffers) -> Result<(), Stop>
     requires { IsRun run.now buffers.old.carry × ((run.now.have ≡ 0) ⊎ (run.now.lines ≡ limit)) }
-    ensures { (tables : Bool) → buffers.new.out ≡ sets buffers.old.out 0 (ends_with tables (mid_of run.now buffers.old.carry)) }
+    ensures totals { (tables : Bool) → buffers.new.out ≡ sets buffers.old.out 0 (ends_with tables (mid_of run.now buffers.old.carry)) }
+    ensures others { (buffers.new.carry ≡ buffers.old.carry) × (buffers.new.reports ≡ buffers.old.reports) }
 {
     let to = run.finish_within(&buffers.carry, &mut buffers.out, 0);
     output

@@ -2,48 +2,54 @@
 use mathlib.Core.Path.{◌≡◌, refl, sym, ◌∙◌}
 use mathlib.Core.Bool.{Bool, true, false, cond}
 use mathlib.Core.List.{List, [], ◌∷◌}
-use Prim.Native.Nat.{ℕ}
-use borrow.Author.Tests.{eqb-true}
-use lib.Dec.{eqb}
+use Prim.Native.Nat.{ℕ, ◌<◌}
+use native.Mathlib.Omega.{arith}
+use borrow.Author.Tests.{ltb-true}
+use lib.Dec.{ltb}
 use lib.ListN.{length, get_or}
 use Rattle.std.specs.Prelude.{Option, None}
 use Rattle.std.proofs.lemmas.Slice.Eq.{HasBytesAt, text_from_reads}
 use Rattle.text.specs.Bytes.{equal}
 use Rattle.text.proofs.Cut.{tabless}
+use Rattle.text.proofs.Numbers.{equal_apart}
 use Rattle.script.specs.Words.{Word, ma, mc, mr, md, ra, rc, rt, rr, wa, wc, wr, rd, cn, cd, cb, c1, ca, ce, spelled, Shape, shape, no_word, shape_of}
 use Rattle.waits.specs.declared.outcome.Outcome.{Outcome}
 use Rattle.detector.specs.declared.event.Event.{Event}
 
--- States that a word has two letters and no tab, and that its letters find the shape of this word.
+-- States that a word has two letters, which are bytes and the first of which is not 0, that they hold no tab, and that
+-- they find the shape of this word.
 pub record Spelled (w : Word) : Type 0 where
   pub two : length (spelled w) ≡ 2
+  pub some : 0 < get_or (spelled w) 0 0
+  pub first_small : get_or (spelled w) 0 0 < 256
+  pub second_small : get_or (spelled w) 1 0 < 256
   pub no_tab : tabless (spelled w) ≡ true
   pub found : shape_of (spelled w) ≡ shape w
 
 -- Returns these facts as one record.
-abbrev known : {w : Word} → length (spelled w) ≡ 2 → tabless (spelled w) ≡ true → shape_of (spelled w) ≡ shape w → Spelled w
-known a b c = record { two = a; no_tab = b; found = c }
+abbrev known : {w : Word} → length (spelled w) ≡ 2 → ltb 0 (get_or (spelled w) 0 0) ≡ true → ltb (get_or (spelled w) 0 0) 256 ≡ true → ltb (get_or (spelled w) 1 0) 256 ≡ true → tabless (spelled w) ≡ true → shape_of (spelled w) ≡ shape w → Spelled w
+known a b c d e f = record { two = a; some = ltb-true _ _ b; first_small = ltb-true _ _ c; second_small = ltb-true _ _ d; no_tab = e; found = f }
 
 pub spelling : (w : Word) → Spelled w
 unfolding shape_of equal
-spelling ma = known refl refl refl
-spelling mc = known refl refl refl
-spelling mr = known refl refl refl
-spelling md = known refl refl refl
-spelling ra = known refl refl refl
-spelling rc = known refl refl refl
-spelling rt = known refl refl refl
-spelling rr = known refl refl refl
-spelling wa = known refl refl refl
-spelling wc = known refl refl refl
-spelling wr = known refl refl refl
-spelling rd = known refl refl refl
-spelling cn = known refl refl refl
-spelling cd = known refl refl refl
-spelling cb = known refl refl refl
-spelling c1 = known refl refl refl
-spelling ca = known refl refl refl
-spelling ce = known refl refl refl
+spelling ma = known refl refl refl refl refl refl
+spelling mc = known refl refl refl refl refl refl
+spelling mr = known refl refl refl refl refl refl
+spelling md = known refl refl refl refl refl refl
+spelling ra = known refl refl refl refl refl refl
+spelling rc = known refl refl refl refl refl refl
+spelling rt = known refl refl refl refl refl refl
+spelling rr = known refl refl refl refl refl refl
+spelling wa = known refl refl refl refl refl refl
+spelling wc = known refl refl refl refl refl refl
+spelling wr = known refl refl refl refl refl refl
+spelling rd = known refl refl refl refl refl refl
+spelling cn = known refl refl refl refl refl refl
+spelling cd = known refl refl refl refl refl refl
+spelling cb = known refl refl refl refl refl refl
+spelling c1 = known refl refl refl refl refl refl
+spelling ca = known refl refl refl refl refl refl
+spelling ce = known refl refl refl refl refl refl
 
 -- A field with the letters of a word has the shape of this word.
 pub shape_at : (w : Word) (f : List ℕ) → length f ≡ 2 → HasBytesAt f 0 (spelled w) → shape_of f ≡ shape w
@@ -62,26 +68,8 @@ pub record Letters (f : List ℕ) (a b : ℕ) : Type 0 where
   pub first : get_or f 0 0 ≡ a
   pub second : get_or f 1 0 ≡ b
 
-first_only : (t u : Bool) → cond t (cond u false false) false ≡ false
-first_only true true = refl
-first_only true false = refl
-first_only false u = refl
-
 differs : (f : List ℕ) (a b : ℕ) → (Letters f a b → ⊥) → equal f (a ∷ b ∷ []) ≡ false
-unfolding equal
-differs [] a b h = refl
-differs (x ∷ []) a b h = one (eqb x a)
-  where
-    one : (t : Bool) → cond t false false ≡ false
-    one true = refl
-    one false = refl
-differs (x ∷ y ∷ []) a b h = both (eqb x a) (eqb y b) refl refl
-  where
-    both : (t u : Bool) → eqb x a ≡ t → eqb y b ≡ u → cond t (cond u true false) false ≡ false
-    both true true e g = absurd (h (record { two = refl; first = eqb-true x a e; second = eqb-true y b g }))
-    both true false e g = refl
-    both false u e g = refl
-differs (x ∷ y ∷ z ∷ f) a b h = first_only (eqb x a) (eqb y b)
+differs f a b h = sym (equal_apart f (a ∷ b ∷ []) (λ l p. h (record { two = l; first = p 0 (omega arith); second = p 1 (omega arith) })))
 
 -- A field of a shape that depends on a test.
 one_pick : (t : Bool) (s r : Shape) (a : ℕ) → (cond t s r).one a ≡ cond t (s.one a) (r.one a)

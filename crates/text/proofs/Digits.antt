@@ -56,6 +56,14 @@ decimal_short (suc k) n h = short_pick (ltb n 10) k n refl h (decimal_short k (n
 pub decimal_bound : (n : ℕ) → n < 2 ^ 64 → length (decimal n) ≤ 20
 decimal_bound n h = decimal_short 19 n (omega arith)
 
+some_pick : (t : Bool) (n : ℕ) → ltb n 10 ≡ t → 0 < length (decimal n)
+some_pick true n e = rw (decimal_one n (ltb-true n 10 e)) (omega arith)
+some_pick false n e = omega (arith, decimal_length n (ltb-false n 10 e))
+
+-- Every number has a digit.
+pub decimal_some : (n : ℕ) → 0 < length (decimal n)
+decimal_some n = some_pick (ltb n 10) n refl
+
 -- ---- Digits put from the last to the first
 
 -- Returns the last k digits of n, with zeros before them if it has fewer.

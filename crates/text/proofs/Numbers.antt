@@ -1,5 +1,5 @@
 -- Numbers read digit by digit, and texts compared byte by byte.
-use mathlib.Core.Path.{◌≡◌, refl}
+use mathlib.Core.Path.{◌≡◌, refl, sym, ap, ◌∙◌}
 use mathlib.Core.Bool.{Bool, true, false, cond}
 use mathlib.Core.List.{List, [], ◌∷◌}
 use Rattle.std.specs.Prelude.{Option, Some, None}
@@ -9,6 +9,7 @@ use Rattle.std.specs.Char.{IsNotAsciiDigit}
 use Prim.Native.Nat.{ℕ, zero, suc, ◌+◌, ◌*◌, ◌-◌, ◌<◌, ◌≤◌, ◌^◌}
 use borrow.Author.Rules.{rules}
 use native.Mathlib.Omega.{arith}
+use native.Mathlib.Decide.{ℕ_discrete}
 use native.Mathlib.Numerals.{add-one}
 use borrow.Author.Tests.{eq-eqb, ne_eqb, lt-ltb, le-ltb}
 use lib.Dec.{eqb, ltb}
@@ -74,12 +75,50 @@ grows (suc zero) v w h g k = omega arith
 grows (suc (suc zero)) v w h g k = omega arith
 grows (suc (suc (suc i))) v w h g k = absurd (omega arith)
 
--- ---- Two texts
+-- ---- Two texts from the place i on
 
--- They differ if their bytes at i do.
-pub equal_not : (s t : List ℕ) (i : ℕ) → i < length s → i < length t → (get_or s i 0 ≡ get_or t i 0 → ⊥) → false ≡ equal (drop i s) (drop i t)
+-- Texts of different length differ.
+pub equal_short : (s t : List ℕ) → (length s ≡ length t → ⊥) → false ≡ equal s t
 unfolding equal
-equal_not s t i h g e = rw (drop-cons s i 0 h, drop-cons t i 0 g, ne_eqb _ _ e)
+equal_short [] [] h = absurd (h refl)
+equal_short [] (b ∷ t) h = refl
+equal_short (a ∷ s) [] h = refl
+equal_short (a ∷ s) (b ∷ t) h = either (eqb a b) _ (equal_short s t (λ e. h (ap suc e)))
+  where
+    either : (t : Bool) (x : Bool) → false ≡ x → false ≡ cond t x false
+    either true x e = e
+    either false x e = refl
+
+module _ (s t : List ℕ) (i : ℕ) (h : i < length s) (g : i < length t) where
+  -- They differ if their bytes at i do; if not, the places after i decide.
+  pub equal_not : (get_or s i 0 ≡ get_or t i 0 → ⊥) → false ≡ equal (drop i s) (drop i t)
+  unfolding equal
+  equal_not e = rw (drop-cons s i 0 h, drop-cons t i 0 g, ne_eqb _ _ e)
+
+  pub equal_on : get_or s i 0 ≡ get_or t i 0 → equal (drop i s) (drop i t) ≡ equal (drop (i + 1) s) (drop (i + 1) t)
+  unfolding equal
+  equal_on e = rw (drop-cons s i 0 h, drop-cons t i 0 g, eq-eqb _ _ e, add-one)
+
+-- So texts of one length differ from i on if not each of the n bytes from there is the same.
+differ_from : (n i : ℕ) (s t : List ℕ) → i + n ≡ length s → length s ≡ length t → (((k : ℕ) → i ≤ k → k < length s → get_or s k 0 ≡ get_or t k 0) → ⊥) → false ≡ equal (drop i s) (drop i t)
+differ_from zero i s t e g h = absurd (h (λ k a b. absurd (omega arith)))
+differ_from (suc n) i s t e g h = go (ℕ_discrete (get_or s i 0) (get_or t i 0)) (λ f. differ_from n (i + 1) s t (omega arith) g f)
+  where
+    at : get_or s i 0 ≡ get_or t i 0 → ((j : ℕ) → i + 1 ≤ j → j < length s → get_or s j 0 ≡ get_or t j 0) → (k : ℕ) → Dec (k ≡ i) → i ≤ k → k < length s → get_or s k 0 ≡ get_or t k 0
+    at q f k (yes z) a b = rw z q
+    at q f k (no z) a b = f k (omega arith) b
+
+    go : Dec (get_or s i 0 ≡ get_or t i 0) → ((((k : ℕ) → i + 1 ≤ k → k < length s → get_or s k 0 ≡ get_or t k 0) → ⊥) → false ≡ equal (drop (i + 1) s) (drop (i + 1) t)) → false ≡ equal (drop i s) (drop i t)
+    go (no d) r = equal_not s t i (omega arith) (omega arith) d
+    go (yes q) r = r (λ f. h (λ k a b. at q f k (ℕ_discrete k i) a b)) ∙ sym (equal_on s t i (omega arith) (omega arith) q)
+
+-- Texts differ if they have different lengths or different bytes.
+pub equal_apart : (s t : List ℕ) → (length s ≡ length t → ((k : ℕ) → k < length s → get_or s k 0 ≡ get_or t k 0) → ⊥) → false ≡ equal s t
+equal_apart s t h = go (ℕ_discrete (length s) (length t))
+  where
+    go : Dec (length s ≡ length t) → false ≡ equal s t
+    go (no d) = equal_short s t d
+    go (yes e) = differ_from (length s) 0 s t (omega arith) e (λ f. h e (λ k. f k (omega arith)))
 
 -- Texts that are found the same are the same.
 pub equal_true : (s t : List ℕ) → equal s t ≡ true → s ≡ t

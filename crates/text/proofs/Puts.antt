@@ -58,6 +58,10 @@ pub record Done (w rest : List ℕ) (d : List ℕ) (at : ℕ) (d' : List ℕ) (r
   pub whole : w ≡ done ++ rest
   pub put : Put d at done d' r
 
+-- At the start all of the text is still to be put.
+pub done_none : (w d : List ℕ) (at : ℕ) → Done w w d at d at
+done_none w d at = record { done = []; whole = refl; put = record { bytes = refl; place = omega arith } }
+
 -- Putting the next part leaves what comes after it.
 pub done_more : {w part rest rest' d d' d'' : List ℕ} {at r r' : ℕ} → Done w rest d at d' r → rest ≡ part ++ rest' → Put d' r part d'' r' → Done w rest' d at d'' r'
 done_more {w} {part} {rest} {rest'} p e q = record { done = p.done ++ part; whole = p.whole ∙ rw (e, append_assoc); put = then p.put q }

@@ -12,7 +12,7 @@ use Rattle.detector.specs.Tables.{Tables, Effect, silent}
 use Rattle.detector.specs.Events.{apply}
 use Rattle.detector.specs.Refusals.{refusal, buffer_bytes}
 use Rattle.detector.specs.State.{tables, Valid}
-use Rattle.detector.specs.Numbered.{Reply, numbered, reports_of}
+use Rattle.detector.specs.Numbered.{Reply, numbered, refused_by, reports_of}
 use Rattle.detector.specs.Promises.{Does}
 use Rattle.detector.specs.declared.event.Event.{Event}
 use Rattle.detector.specs.declared.state.Detector.{Detector}
@@ -24,7 +24,7 @@ use Rattle.detector.specs.Brief.{Brief}
 use Rattle.detector.proofs.Serving.{refused_is, effect_served, effect_refused}
 use Rattle.detector.proofs.Brief.{most_32, valid_brief}
 use Rattle.answers.specs.Reports.{reports_in, reports_size, reports_bytes}
-use Rattle.answers.specs.Answers.{number}
+use Rattle.answers.specs.Answers.{printed, number}
 use Rattle.answers.proofs.Laid.{reports_read, reports_size_lem}
 use Rattle.std.specs.Prelude.{Option, Some, None, Ok, Err}
 use Rattle.transcript.specs.Replay.{Result, replying, line_result}
@@ -38,7 +38,7 @@ pub record Results (f : Detector) (r : Reply) (b : List ℕ) (a : Result) : Type
   pub cycles : reports_in (reports_of r) b ≡ a.cycles
   pub held : reports_size (reports_of r) b ≤ buffer_bytes
   pub few : reports_of r ≤ 32
-  pub small : number r < 256
+  pub small : number (printed r) < 256
 
 -- ---- The bytes of reports are those of their entries
 
@@ -74,7 +74,7 @@ line_refused : (x : Tables) (e : Event) → (refusal x buffer_bytes e ≡ 0 → 
 line_refused x e q = rw (effect_refused x buffer_bytes e q, ne_eqb (refusal x buffer_bytes e) 0 q)
 
 -- Every refusal is printed with one digit.
-small_number : (r : Refusal) → number (Err r) < 256
+small_number : (r : Refusal) → number (printed (Err r)) < 256
 small_number Unreadable = omega arith
 small_number State = omega arith
 small_number Thread = omega arith
@@ -109,27 +109,30 @@ served_results d e f b c g n q s =
 -- ---- Where the cases of a line meet
 
 module _ (d f : Detector) (r : Reply) (b e : List ℕ) (g : Valid d) (n : length b ≡ buffer_bytes) where
-  -- An event that is refused, or is served by its rule, gives the result of its line.
-  event_results : (ev : Event) → Replied d (Some ev) f r b e → Results f r e (line_result (tables d) (Some ev))
-  event_results ev p = go (ℕ_discrete (refusal (tables d) (length b) ev) 0)
-    where
-      go : Dec (refusal (tables d) (length b) ev ≡ 0) → Results f r e (line_result (tables d) (Some ev))
-      go (yes z) =
-          let s = p.served z in
-          let q : refusal (tables d) buffer_bytes ev ≡ 0 = rw (← n) z in
-          rw (s.0, line_served (tables d) ev q) (served_results d ev f b e g n q s.1)
-      go (no z) =
-          let s = p.refused (omega arith) in
-          let q : refusal (tables d) buffer_bytes ev ≡ 0 → ⊥ = rw (← n) z in
-          let k : r ≡ Err (numbered (refusal (tables d) buffer_bytes ev)) = refused_is r (omega (arith, s.0)) ∙ rw (s.0, n) in
-          rw (k, s.1, s.2, line_refused (tables d) ev q) (refused_results d (numbered (refusal (tables d) buffer_bytes ev)) b g)
-
   -- An event that is served by its rule gives the result of its line.
   pub met_served : (ev : Event) → refusal (tables d) (length b) ev ≡ 0 → Does f (length (apply ev (tables d)).reports) b e (apply ev (tables d))
       → r ≡ Ok (length (apply ev (tables d)).reports) → Results f r e (line_result (tables d) (Some ev))
-  met_served ev z s o = event_results ev (record { refused = λ h. absurd (omega (arith, z)); served = λ i. (o, s) })
+  met_served ev z s o =
+      let q : refusal (tables d) buffer_bytes ev ≡ 0 = rw (← n) z in
+      rw (o, line_served (tables d) ev q) (served_results d ev f b e g n q s)
+
+  -- So does an event that is refused.
+  pub met_refused : (ev : Event) → (refusal (tables d) (length b) ev ≡ 0 → ⊥) → refused_by r ≡ refusal (tables d) (length b) ev → f ≡ d → e ≡ b
+      → Results f r e (line_result (tables d) (Some ev))
+  met_refused ev z o s c =
+      let q : refusal (tables d) buffer_bytes ev ≡ 0 → ⊥ = rw (← n) z in
+      let k : r ≡ Err (numbered (refusal (tables d) buffer_bytes ev)) = refused_is r (omega (arith, o, z)) ∙ rw (o, n) in
+      rw (k, s, c, line_refused (tables d) ev q) (refused_results d (numbered (refusal (tables d) buffer_bytes ev)) b g)
+
+  -- So does a line that does not read.
+  pub met_unreadable : r ≡ Err Unreadable → f ≡ d → e ≡ b → Results f r e (line_result (tables d) None)
+  met_unreadable o s c = rw (o, s, c) (refused_results d Unreadable b g)
 
   -- So every line that is replied to gives its result.
   pub line_results : (l : Option Event) → Replied d l f r b e → Results f r e (line_result (tables d) l)
-  line_results (Some ev) p = event_results ev p
-  line_results None p = rw (p.0, p.1, p.2) (refused_results d Unreadable b g)
+  line_results (Some ev) p = go (ℕ_discrete (refusal (tables d) (length b) ev) 0)
+    where
+      go : Dec (refusal (tables d) (length b) ev ≡ 0) → Results f r e (line_result (tables d) (Some ev))
+      go (yes z) = let s = p.served z in met_served ev z s.1 s.0
+      go (no z) = let s = p.refused (omega arith) in met_refused ev z s.0 s.1 s.2
+  line_results None p = met_unreadable p.0 p.1 p.2

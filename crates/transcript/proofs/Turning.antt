@@ -14,7 +14,8 @@ use Rattle.text.proofs.Cut.{take_up_to}
 use Rattle.detector.specs.Tables.{Tables}
 use Rattle.detector.specs.declared.state.Detector.{Detector}
 use Rattle.text.specs.Promises.{Room, Put}
-use Rattle.answers.specs.Answers.{reply_text, cycles_text, answer_text, answer_bytes}
+use Rattle.answers.specs.Reports.{reports_size}
+use Rattle.answers.specs.Answers.{Printed, printed, number, reply_text, cycles_text, answer_text, answer_bytes}
 use Rattle.answers.specs.Promises.{ReportsInside}
 use Rattle.answers.proofs.Bounds.{Bytes, answer_room, answer_bound}
 use Rattle.waits.specs.Report.{Entry}
@@ -28,7 +29,7 @@ use Rattle.transcript.specs.Chunks.{Mid, mid, step, prints_byte, fed, prints}
 use Rattle.transcript.specs.Code.{run_of, mid_of, between}
 use Rattle.transcript.specs.Promises.{IsRun, Moves}
 use Rattle.transcript.specs.declared.run.Run as code
-use Rattle.std.specs.Prelude.{Option}
+use Rattle.std.specs.Prelude.{Option, Ok, Err}
 use Rattle.detector.specs.declared.event.Event.{Event}
 use Rattle.transcript.proofs.Answering.{Results}
 use Rattle.transcript.proofs.Text.{fed_append, prints_append, cut_result, cut_more}
@@ -154,20 +155,35 @@ module _ (have : ℕ) (carry : List ℕ) (r : Run) (small : have ≤ carry_bytes
 
 -- ---- The answer to the line
 
-effect_result : (n : ℕ) (f : Detector) (y : Reply) (b : List ℕ) (a : Result) → Results f y b a → answer_text n y b ≡ result_text n a
+-- As many reports are printed as the reply has.
+pub printed_reports : (y : Reply) → reports_of (printed y) ≡ reports_of y
+printed_reports (Ok n) = refl
+printed_reports (Err r) = refl
+
+effect_result : (n : ℕ) (f : Detector) (y : Reply) (b : List ℕ) (a : Result) → Results f y b a → answer_text n (printed y) b ≡ result_text n a
 unfolding answer_text
-effect_result n f y b a h = ap₂ (λ (q : Reply) (c : List (List Entry)). reply_text n q ++ cycles_text c) h.reply h.cycles
+effect_result n f y b a h = ap₂ (λ (q : Reply) (c : List (List Entry)). reply_text n (printed q) ++ cycles_text c) h.reply (rw printed_reports h.cycles)
 
--- There is room for the answer, and what is put is the text of the result.
-module _ (n : ℕ) (f : Detector) (a : Reply) (b : List ℕ) (q : Result) (small : n < 2 ^ 64) (bytes : Bytes b) (s : Results f a b q) (out : List ℕ) (at : ℕ) where
-  pub answered_room : length b ≡ buffer_bytes → at + answer_bytes ≤ length out → ReportsInside (reports_of a) b × Room out at (answer_text n a b)
-  answered_room h w = (omega (arith, s.held), answer_room out at n a b small (omega (arith, s.small)) bytes s.few s.held w)
+-- There is room for the answer, and what is put is the text of the result. The answer is of what is printed of the reply.
+module _ (n : ℕ) (f : Detector) (a : Reply) (b : List ℕ) (q : Result) (small : n < 2 ^ 64) (bytes : Bytes b) (s : Results f a b q) (out : List ℕ) (at : ℕ) (y : Printed) (e : y ≡ printed a) where
+  few : reports_of y ≤ 32
+  few = rw (e, printed_reports) s.few
 
-  pub answered_line : (out' : List ℕ) (to : ℕ) → Put out at (answer_text n a b) out' to
+  held : reports_size (reports_of y) b ≤ buffer_bytes
+  held = rw (e, printed_reports) s.held
+
+  number_small : number y < 2 ^ 64
+  number_small = rw e (omega (arith, s.small))
+
+  pub answered_room : length b ≡ buffer_bytes → at + answer_bytes ≤ length out → ReportsInside (reports_of y) b × Room out at (answer_text n y b)
+  answered_room h w = (omega (arith, held), answer_room out at n y b small number_small bytes few held w)
+
+  pub answered_line : (out' : List ℕ) (to : ℕ) → Put out at (answer_text n y b) out' to
       → Valid f × (tables f ≡ q.tables) × Put out at (result_text n q) out' to × (to ≤ at + answer_bytes)
   answered_line out' to p =
-      let w = answer_bound n a b small (omega (arith, s.small)) bytes s.few s.held in
-      (s.valid, s.state, subst (λ (t : List ℕ). Put out at t out' to) (effect_result n f a b q s) p, omega (arith, p.place, w))
+      let w = answer_bound n y b small number_small bytes few held in
+      let t : answer_text n y b ≡ result_text n q = ap (λ (z : Printed). answer_text n z b) e ∙ effect_result n f a b q s in
+      (s.valid, s.state, subst (λ (t : List ℕ). Put out at t out' to) t p, omega (arith, p.place, w))
 
 pub after_line : (r : Run) (l : List ℕ) (x : Tables) (n : ℕ) → n ≡ r.lines + 1 → x ≡ (line_result r.tables (line_of l)).tables → mid [] (record { lines = n; tables = x }) ≡ mid [] (after r l)
 unfolding after result_of

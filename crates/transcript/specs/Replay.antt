@@ -9,7 +9,7 @@ use Rattle.detector.specs.Effects.{effect, replied}
 use Rattle.detector.specs.Refusals.{buffer_bytes}
 use Rattle.script.specs.Lines.{line_of, line_refusal}
 use Rattle.detector.specs.declared.event.Event.{Event}
-use Rattle.answers.specs.Answers.{reply_text, cycles_text, end_text}
+use Rattle.answers.specs.Answers.{printed, reply_text, cycles_text, end_text}
 use Rattle.text.specs.Lines.{lines_of}
 
 -- At most this many lines are read.
@@ -55,7 +55,7 @@ after r l = record { lines = r.lines + 1; tables = (result_of r.tables l).tables
 
 -- Returns the answer that is printed for the result of line n.
 abbrev pub result_text : ℕ → Result → List ℕ
-result_text n a = reply_text n a.reply ++ cycles_text a.cycles
+result_text n a = reply_text n (printed a.reply) ++ cycles_text a.cycles
 
 -- Returns the answer to the line l, which is the next one of the run r.
 unfoldable pub line_text : Run → List ℕ → List ℕ

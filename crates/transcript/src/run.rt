@@ -2,6 +2,7 @@
 ghost use Rattle.std.specs.Prelude.{◌≡◌, ◌++◌, length, take};
 ghost use Rattle.detector.specs.Refusals.{buffer_bytes};
 ghost use Rattle.script.specs.Lines.{line_of};
+ghost use Rattle.answers.specs.Answers.{printed};
 ghost use Rattle.transcript.specs.Code.{with_detector};
 ghost use Rattle.transcript.specs.Promises.{Begins, IsRun, Replied, FeedAsks, Feeds};
 
@@ -27,6 +28,13 @@ pub struct Run {
 pub struct Turned {
     pub next: usize,
     pub at: usize,
+}
+
+// Returns what is printed of a reply: the number of reports, or the number of the refusal.
+fn printed(reply: Result<usize, Refusal>) -> Result<usize, u8>
+    ensures { result ≡ printed reply }
+{
+    reply.map_err(u8::from)
 }
 
 impl Run {
@@ -81,7 +89,7 @@ impl Run {
             let reply = self.reply(carry, &chunk[next..end], buf);
             self.lines += 1;
             self.have = 0;
-            to = put_answer(out, to, self.lines, reply, buf);
+            to = put_answer(out, to, self.lines, printed(reply), buf);
             next = end + 1;
         }
         Turned { next, at: to }

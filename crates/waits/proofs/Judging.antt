@@ -7,8 +7,10 @@ use native.Mathlib.Omega.{arith}
 use lib.ListN.{length, drop, get_or, set, length-map, drop_of_length-le}
 use lib.Seq.{sets, length-sets}
 use Rattle.std.specs.Prelude.{Option, None, Some}
+use Rattle.std.specs.Option.{unwrap_or}
 use Rattle.waits.specs.Tables.{intent_of, lock_of, waiters_of, with_graph}
-use Rattle.waits.specs.Waiting.{Linking, register, refreshed, renew_all, refresh, refresh_locks}
+use Rattle.graph.specs.Graph.{adding}
+use Rattle.waits.specs.Waiting.{Linking, linking, register, refreshed, renew_all, refresh, refresh_locks}
 use Rattle.waits.specs.Report.{Report, Judging, report, Entry, entry_of, entry_bytes, entries_text, bytes_of, written, quiet, reporting}
 use Rattle.waits.specs.Validate.{valid, awaited_locks, checked, validate}
 use Rattle.waits.specs.Attempt.{judge_found, judge, sieve_found, settle, block, block_mutex, mutex_on, read_on, write_on, free, block_write, block_for}
@@ -105,7 +107,7 @@ module _ (c : List ℕ) (w : Waits) (p : List ℕ) where
     unfolding validate
     again = ap (λ (s : Linking). checked c s.waits s.found) e ∙ rw f
 
-    -- If there is one and it is valid, it is reported; if not, nothing is.
+    -- If there is one and it is valid, it is reported; if it is not, or if there is none, nothing is.
     pub second_none : o ≡ None → quiet v ≡ validate c w p
     unfolding checked
     second_none n = (rw n at again)
@@ -114,16 +116,22 @@ module _ (c : List ℕ) (w : Waits) (p : List ℕ) where
     unfolding checked
     second_reports q n t = (rw (n, t) at again)
 
-    pub second_quiet : (q : List ℕ) → o ≡ Some q → valid c v q ≡ false → quiet v ≡ validate c w p
+    pub second_quiet : valid c v (unwrap_or o []) ≡ false → quiet v ≡ validate c w p
     unfolding checked
-    second_quiet q n t = (rw (n, t) at again)
+    second_quiet t = go o t ∙ again
+      where
+        go : (o : Option (List ℕ)) → valid c v (unwrap_or o []) ≡ false → quiet v ≡ checked c v o
+        go None t = refl
+        go (Some q) t = rw t
 
 -- ---- An attempt, which is one for all modes
 
--- A refresh changes no table but the graph.
-pub refresh_linked : (c : List ℕ) (w : Waits) (l : ℕ) → refresh c w l ≡ linked (with_graph w (refreshed c w l).graph) (refreshed c w l).found
+-- A refresh changes no table but the graph: tables that differ from w in the graph alone, with the graph and the path that
+-- the refresh gives, are its result.
+pub refresh_linked : (c : List ℕ) (w : Waits) (l : ℕ) (v : Waits) (o : Option (List ℕ)) → v ≡ with_graph w v.wait_for_graph
+    → adding v.wait_for_graph o ≡ refreshed c w l → linked v o ≡ refresh c w l
 unfolding refresh
-refresh_linked c w l = refl
+refresh_linked c w l v o e f = ap (λ (x : Waits). linked x o) e ∙ ap (linking w) f
 
 -- Returns the result for a path that is found, by the mode: filtered and validated, or only validated.
 abbrev pub sieved_for : WaitMode → List ℕ → Waits → Option (List ℕ) → Judging

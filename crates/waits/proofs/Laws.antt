@@ -1,17 +1,20 @@
 -- What the rules keep in range, and which threads the owners are.
-use mathlib.Core.Path.{◌≡◌, refl, sym, subst}
+use mathlib.Core.Path.{◌≡◌, refl, sym, ap, ◌∙◌, subst}
 use mathlib.Core.Logic.{⊎_elim}
 use mathlib.Core.List.{List, [], ◌∷◌, foldl}
 use mathlib.Core.Bool.{Bool, true, false, cond}
 use Prim.Native.Nat.{ℕ, zero, suc, ◌<◌, ◌≤◌}
 use lib.Dec.{lit<, lit≤}
 use lib.ListN.{get_or, set, replicate}
+use lib.Seq.{set-get_or}
 use Rattle.sets.specs.Sets.{upward}
 use Rattle.sets.specs.Lists.{In, among}
 use Rattle.sets.proofs.Lists.{in_either}
+use Rattle.sets.proofs.Walk.{upward_zero}
 use Rattle.sets.proofs.Below.{those_in}
 use Rattle.sets.proofs.Tables.{set_all}
-use Rattle.graph.specs.Graph.{one, Adding}
+use Rattle.graph.specs.Search.{row}
+use Rattle.graph.specs.Graph.{one, cut_all, clear_wait_edges, Adding}
 use Rattle.graph.specs.declared.wait_for_graph.WaitForGraph.{WaitForGraph}
 use Rattle.graph.proofs.Fits.{Fits, fits_none, fits_first, fits_owners, one_lt}
 use Rattle.std.specs.Prelude.{Option, None, Some}
@@ -150,3 +153,11 @@ fits_next c (l ∷ ls) s f = fits_next c ls (refresh_next c s l) (fits_first s.f
 pub fits_locks : (c : List ℕ) (w : Waits) (ls : List ℕ) → Fits (refresh_locks c w ls).found
 unfolding refresh_locks
 fits_locks c w ls = fits_next c ls _ fits_none
+
+-- ---- If there are no edges from t, clearing them changes nothing
+
+pub clear_idle : (g : WaitForGraph) (t : ℕ) → row g.edges t ≡ 0 → clear_wait_edges g t ≡ g
+unfolding clear_wait_edges cut_all
+clear_idle g t e =
+    let s : set g.edges t 0 ≡ g.edges = ap (set g.edges t) (sym e) ∙ set-get_or g.edges t 0 in
+    rw (e, upward_zero 32 0, s)

@@ -9,5 +9,5 @@ returns-in-Ok c =
 
 pub returns-in-Err : goal.returns-in-Err
 returns-in-Err c =
-    rw (c.in-Err.is, reply_parts, ← c.from.ensures, ← c.from-in-Err.ensures)
+    rw (c.in-Err.is, reply_parts, ← c.from.ensures)
     (then c.put_number-a.ensures (then c.put_bytes-b-in-Err.ensures (then c.put_field-c-in-Err.ensures c.put_byte-in-Err.ensures)))

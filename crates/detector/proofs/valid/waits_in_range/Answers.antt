@@ -18,7 +18,7 @@ returns-then-threads_in_range c =
       | then-intents_in_range b ↦
           let e : last.result ≡ range_test w =
           last.ensures ∙ range_last w i.1 o r (sym i.0 ∙ b.if-intents_in_range.true) (sym b.threads_in_range.ensures ∙ sym b.value-is ∙ c.if-threads_in_range.true) in
-          (e, λ t. tested_range w i.1 o r (sym e ∙ t))
+          (e, λ t. tested_range w i.1 o r (sym e ∙ t), i.1, o, r)
       | else-intents_in_range b ↦ absurd (false≢true (sym b.if-intents_in_range.false ∙ sym b.value-is ∙ c.if-threads_in_range.true))
     ]
 
@@ -35,4 +35,7 @@ returns-else-threads_in_range c =
             | else-intents_in_range b ↦ range_first w i.1 o r (sym i.0 ∙ b.if-intents_in_range.false)
           ],
       λ t. absurd (false≢true (sym f ∙ t)),
+      i.1,
+      o,
+      r,
     )

@@ -1,4 +1,4 @@
-use Rattle.detector.proofs.Validity.{range_valid, unmapped, valid_last, valid_second, valid_first}
+use Rattle.detector.proofs.Validity.{tested_valid, unmapped, valid_last, valid_second, valid_first}
 use Rattle.detector.specs.State.{valid_test}
 use borrow.Author.Rules.{rules}
 use mathlib.Core.Path.{◌≡◌, sym, ◌∙◌}
@@ -17,7 +17,7 @@ returns-then-queues_valid c =
           let q = b.queues_valid.ensures in
           let t = sym b.value-is ∙ c.if-queues_valid.true in
           let e : c.cv_waits_valid.result ≡ valid_test d = c.cv_waits_valid.ensures ∙ valid_last d v (sym w.0 ∙ b.if-waits_in_range.true) (sym q.0 ∙ t) in
-          (e, λ r. range_valid d (w.1 b.if-waits_in_range.true) (q.1 t) v (sym e ∙ r))
+          (e, λ r. tested_valid d (record { intents = w.2; owners = w.3; writers = w.4; cv_waits = v; cells = q.1 t }) (sym e ∙ r))
       | else-waits_in_range b ↦ absurd (false≢true (sym b.if-waits_in_range.false ∙ sym b.value-is ∙ c.if-queues_valid.true))
     ]
 

@@ -1,5 +1,5 @@
 use Rattle.transcript.proofs.Answering.{Results, line_results}
-use Rattle.transcript.proofs.Turning.{answered_room, answered_line, carried_turn, line_turn}
+use Rattle.transcript.proofs.Turning.{printed_reports, answered_room, answered_line, carried_turn, line_turn}
 use Rattle.transcript.proofs.Feeding.{goes_none, goes_on, goes_done}
 use Rattle.transcript.specs.Replay.{line_result}
 use Rattle.transcript.specs.declared.run.Run.{Run}
@@ -9,7 +9,7 @@ use Rattle.answers.proofs.Bounds.{Bytes}
 use borrow.Author.Rules.{rules}
 use mathlib.Core.Path.{◌≡◌, refl, ap, ◌∙◌}
 use mathlib.Core.List.{◌++◌}
-use Prim.Native.Nat.{◌-◌}
+use Prim.Native.Nat.{◌+◌, ◌-◌}
 use native.Mathlib.Omega.{arith}
 use lib.ListN.{take, drop}
 use Rattle.transcript.proofs.run.Run.feed_within.Goals as goal
@@ -32,14 +32,16 @@ same : (c : After-reply-reply) → c.reply-reply.new.self.lines ≡ c.loop-next.
 same c = ap (λ (r : Run). r.lines) c.reply-reply.ensures.same
 
 pub put_answer-to-requires-clause-inside : goal.put_answer-to-requires-clause-inside
-put_answer-to-requires-clause-inside c = omega (arith, (results (goal.at.put_answer-to-requires-clause-inside c).After-reply-reply).held, c.reply-reply.auto.buf, c.loop-next.invariant.1)
+put_answer-to-requires-clause-inside c =
+    rw (c.printed.ensures, printed_reports)
+    (omega (arith, (results (goal.at.put_answer-to-requires-clause-inside c).After-reply-reply).held, c.reply-reply.auto.buf, c.loop-next.invariant.1))
 
 pub put_answer-to-requires-clause-room : goal.put_answer-to-requires-clause-room
 put_answer-to-requires-clause-room c =
     let v = c.loop-next.invariant in
     let r = (goal.at.put_answer-to-requires-clause-room c).After-reply-reply in
     let bytes : Bytes c.reply-reply.new.buf = λ i. search rules in
-    (answered_room _ _ _ _ _ (omega (arith, same r, v.0.moves.kept.lines)) bytes (results r) _ _ (omega (arith, c.reply-reply.auto.buf, v.1)) (omega (arith, c.if-out-to-lt-ANSWER_BYTES.false, v.4))).1
+    (answered_room _ _ _ _ _ (omega (arith, same r, v.0.moves.kept.lines)) bytes (results r) _ _ _ c.printed.ensures (omega (arith, c.reply-reply.auto.buf, v.1)) (omega (arith, c.if-out-to-lt-ANSWER_BYTES.false, v.4))).1
 
 pub loop-next-preserved : goal.loop-next-preserved
 loop-next-preserved c =
@@ -48,7 +50,7 @@ loop-next-preserved c =
     let p = c.put_answer-to in
     let k = v.0.moves.kept in
     let bytes : Bytes c.reply-reply.new.buf = λ i. search rules in
-    let t = answered_line _ _ _ _ _ (omega (arith, same r, k.lines)) bytes (results r) _ _ _ _ p.ensures in
+    let t = answered_line _ _ _ _ _ (omega (arith, same r, k.lines)) bytes (results r) _ _ _ c.printed.ensures _ _ p.ensures in
     rw (same r) (
       goes_on v.0
           (line_turn c.loop-next.self c.loop-next.carry c.reply-reply.new.carry _ c.loop-next.out p.new.out c.loop-next.next c.up_to-end.result c.loop-next.to p.result c.reply-reply.new.self.detector _

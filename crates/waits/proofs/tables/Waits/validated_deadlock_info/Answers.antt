@@ -1,5 +1,9 @@
 use mathlib.Core.Bool.{false}
-use mathlib.Core.Path.{◌≡◌, sym, ◌∙◌}
+use mathlib.Core.List.{List, []}
+use mathlib.Core.Path.{◌≡◌, sym, ap, ◌∙◌}
+use Prim.Native.Nat.{ℕ}
+use Rattle.std.specs.Prelude.{Option}
+use Rattle.std.specs.Option.{unwrap_or}
 use Rattle.waits.specs.Waiting.{refresh_locks}
 use Rattle.waits.specs.Validate.{valid, awaited_locks}
 use Rattle.waits.specs.Code.{linked}
@@ -34,4 +38,6 @@ returns-then-validate_wait_cycle-2 c =
 pub returns : goal.returns
 returns c =
     let s = second_look (goal.at.returns c).After-refresh_all in
-    (second_quiet _ _ _ s.0 _ _ s.1 _ c.in_ok-refreshed.was (sym c.validate_wait_cycle-2.ensures ∙ c.if-validate_wait_cycle-2.false), c.refresh_all.ensures.1)
+    let f = sym c.validate_wait_cycle-2.ensures ∙ c.if-validate_wait_cycle-2.false in
+    let n = ap (λ (o : Option (List ℕ)). valid c.args.counts.now c.refresh_all.new.self (unwrap_or o [])) c.in_ok-refreshed.was ∙ f in
+    (second_quiet _ _ _ s.0 _ _ s.1 n, c.refresh_all.ensures.1)
