@@ -49,7 +49,7 @@ pub item_parts : (b : List ℕ) (p t l : ℕ) → t ≡ get_or b p 0 → l ≡ g
 unfolding item_text
 item_parts b p t l e f = simp (get_or-drop, add-zero, ← e, ← f) (ap (λ (x : List ℕ). with_tab x) (append_assoc (decimal t) (text ":") (decimal l)))
 
-items_more : (n p : ℕ) (b : List ℕ) → 0 < n → items_text (entries_in n (drop p b)) ≡ with_tab (item_text (entry_in (drop p b))) ++ items_text (entries_in (n - 1) (drop (p + entry_bytes) b))
+pub items_more : (n p : ℕ) (b : List ℕ) → 0 < n → items_text (entries_in n (drop p b)) ≡ with_tab (item_text (entry_in (drop p b))) ++ items_text (entries_in (n - 1) (drop (p + entry_bytes) b))
 unfolding entries_in tabbed
 items_more zero p b h = absurd (omega arith)
 items_more (suc n) p b h = simp (drop-drop, suc_sub_one)
@@ -70,12 +70,12 @@ cycles_none (suc n) b h = absurd (omega arith)
 next_report : (b : List ℕ) (p m : ℕ) → m ≡ get_or b p 0 → p + report_size (drop p b) ≡ p + 1 + entry_bytes * m
 next_report b p m e = simp (get_or-drop, add-zero, ← e) (omega arith)
 
-cycles_more : (n p m : ℕ) (b : List ℕ) → 0 < n → m ≡ get_or b p 0 → cycles_text (reports_in n (drop p b)) ≡ cycle_text (report_in (drop p b)) ++ cycles_text (reports_in (n - 1) (drop (p + 1 + entry_bytes * m) b))
+pub cycles_more : (n p m : ℕ) (b : List ℕ) → 0 < n → m ≡ get_or b p 0 → cycles_text (reports_in n (drop p b)) ≡ cycle_text (report_in (drop p b)) ++ cycles_text (reports_in (n - 1) (drop (p + 1 + entry_bytes * m) b))
 unfolding reports_in cycles_text
 cycles_more zero p m b h e = absurd (omega arith)
 cycles_more (suc n) p m b h e = rw (drop-drop (report_size (drop p b)) p b, next_report b p m e, suc_sub_one)
 
-size_more : (n p : ℕ) (b : List ℕ) → 0 < n → reports_size n (drop p b) ≡ 1 + entry_bytes * get_or b p 0 + reports_size (n - 1) (drop (p + 1 + entry_bytes * get_or b p 0) b)
+pub size_more : (n p : ℕ) (b : List ℕ) → 0 < n → reports_size n (drop p b) ≡ 1 + entry_bytes * get_or b p 0 + reports_size (n - 1) (drop (p + 1 + entry_bytes * get_or b p 0) b)
 unfolding reports_size
 size_more zero p b h = absurd (omega arith)
 size_more (suc n) p b h =

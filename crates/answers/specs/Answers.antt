@@ -51,7 +51,7 @@ unfoldable pub cycles_text : List (List Entry) → List ℕ
 cycles_text [] = []
 cycles_text (es ∷ rs) = cycle_text es ++ cycles_text rs
 
--- Returns the answer to line n, of whose reply r is printed and whose reports stand in the report buffer b.
+-- Returns the answer to line n, where r is printed of its reply and its reports stand in the report buffer b.
 unfoldable pub answer_text : ℕ → Printed → List ℕ → List ℕ
 answer_text n r b = reply_text n r ++ cycles_text (reports_in (reports_of r) b)
 

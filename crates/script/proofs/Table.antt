@@ -72,19 +72,19 @@ differs : (f : List ℕ) (a b : ℕ) → (Letters f a b → ⊥) → equal f (a 
 differs f a b h = sym (equal_apart f (a ∷ b ∷ []) (λ l p. h (record { two = l; first = p 0 (omega arith); second = p 1 (omega arith) })))
 
 -- A field of a shape that depends on a test.
-one_pick : (t : Bool) (s r : Shape) (a : ℕ) → (cond t s r).one a ≡ cond t (s.one a) (r.one a)
+pub one_pick : (t : Bool) (s r : Shape) (a : ℕ) → (cond t s r).one a ≡ cond t (s.one a) (r.one a)
 one_pick true s r a = refl
 one_pick false s r a = refl
 
-two_pick : (t : Bool) (s r : Shape) (a b : ℕ) → (cond t s r).two a b ≡ cond t (s.two a b) (r.two a b)
+pub two_pick : (t : Bool) (s r : Shape) (a b : ℕ) → (cond t s r).two a b ≡ cond t (s.two a b) (r.two a b)
 two_pick true s r a b = refl
 two_pick false s r a b = refl
 
-three_pick : (t : Bool) (s r : Shape) (a b : ℕ) (o : Outcome) → (cond t s r).three a b o ≡ cond t (s.three a b o) (r.three a b o)
+pub three_pick : (t : Bool) (s r : Shape) (a b : ℕ) (o : Outcome) → (cond t s r).three a b o ≡ cond t (s.three a b o) (r.three a b o)
 three_pick true s r a b o = refl
 three_pick false s r a b o = refl
 
-cond_same : (t : Bool) (x : Option Event) → cond t x x ≡ x
+pub cond_same : (t : Bool) (x : Option Event) → cond t x x ≡ x
 cond_same true x = refl
 cond_same false x = refl
 

@@ -84,7 +84,7 @@ small_number Buffer = omega arith
 small_number Queue = omega arith
 small_number Count = omega arith
 
-refused_results : (d : Detector) (r : Refusal) (b : List ℕ) → Valid d → Results d (Err r) b (replying (Err r) (silent (tables d)))
+pub refused_results : (d : Detector) (r : Refusal) (b : List ℕ) → Valid d → Results d (Err r) b (replying (Err r) (silent (tables d)))
 unfolding reports_in reports_size
 refused_results d r b g = record { valid = g; state = refl; reply = refl; cycles = refl; held = omega arith; few = omega arith; small = small_number r }
 

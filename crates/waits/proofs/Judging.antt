@@ -108,10 +108,6 @@ module _ (c : List ℕ) (w : Waits) (p : List ℕ) where
     again = ap (λ (s : Linking). checked c s.waits s.found) e ∙ rw f
 
     -- If there is one and it is valid, it is reported; if it is not, or if there is none, nothing is.
-    pub second_none : o ≡ None → quiet v ≡ validate c w p
-    unfolding checked
-    second_none n = (rw n at again)
-
     pub second_reports : (q : List ℕ) → o ≡ Some q → valid c v q ≡ true → reporting v q ≡ validate c w p
     unfolding checked
     second_reports q n t = (rw (n, t) at again)

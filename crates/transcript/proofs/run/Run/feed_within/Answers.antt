@@ -9,7 +9,7 @@ use Rattle.answers.proofs.Bounds.{Bytes}
 use borrow.Author.Rules.{rules}
 use mathlib.Core.Path.{◌≡◌, refl, ap, ◌∙◌}
 use mathlib.Core.List.{◌++◌}
-use Prim.Native.Nat.{◌+◌, ◌-◌}
+use Prim.Native.Nat.{◌-◌}
 use native.Mathlib.Omega.{arith}
 use lib.ListN.{take, drop}
 use Rattle.transcript.proofs.run.Run.feed_within.Goals as goal

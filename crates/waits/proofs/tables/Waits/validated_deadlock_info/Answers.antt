@@ -7,8 +7,8 @@ use Rattle.std.specs.Option.{unwrap_or}
 use Rattle.waits.specs.Waiting.{refresh_locks}
 use Rattle.waits.specs.Validate.{valid, awaited_locks}
 use Rattle.waits.specs.Code.{linked}
-use Rattle.waits.proofs.Judging.{first_reports, second_none, second_reports, second_quiet}
-use Rattle.waits.proofs.Masks.{awaited_locks_lem}
+use Rattle.waits.proofs.Judging.{first_reports, second_reports, second_quiet}
+use Rattle.waits.proofs.Masks.{awaited_locks_lem, valid_none}
 use Rattle.waits.proofs.tables.Waits.validated_deadlock_info.Goals as goal
 use Rattle.waits.proofs.tables.Waits.validated_deadlock_info.Goals.{After-refresh_all}
 
@@ -28,7 +28,8 @@ returns-then-validate_wait_cycle c =
 pub returns-in_err-refreshed : goal.returns-in_err-refreshed
 returns-in_err-refreshed c =
     let s = second_look (goal.at.returns-in_err-refreshed c).After-refresh_all in
-    (rw c.from_residual.ensures (second_none _ _ _ s.0 _ _ s.1 c.in_err-refreshed.was), c.refresh_all.ensures.1)
+    let n = ap (λ (o : Option (List ℕ)). valid c.args.counts.now c.refresh_all.new.self (unwrap_or o [])) c.in_err-refreshed.was ∙ sym (valid_none _ _) in
+    (rw c.from_residual.ensures (second_quiet _ _ _ s.0 _ _ s.1 n), c.refresh_all.ensures.1)
 
 pub returns-then-validate_wait_cycle-2 : goal.returns-then-validate_wait_cycle-2
 returns-then-validate_wait_cycle-2 c =
